@@ -104,7 +104,7 @@ module _ {M : Type 1} {𝓤 : Ura M} (𝓛 : Logic 𝓤) (mem : Memory → SProp
     to = (((κ, tt), (q, tt), tt, (s, (n, tt)), (value_of s ∷ [], (vint w64 n ∷ [], tt))), tt)
 
     abbrev pub Asked : SProp 𝓤
-    Asked = F.pre to
+    Asked = F.requires to
 
     pub asks : n < 2 ^ 64 → ent 𝓤 (sep 𝓤 (sem 𝓛 (Slice κ s)) (sep 𝓤 (sem 𝓛 (flft κ q)) (emp 𝓤))) Asked
     asks fits =

@@ -123,10 +123,10 @@ module _ {M : Type 1} {𝓤 : Ura M} (𝓛 : Logic 𝓤) (R : RattleType) (τ : 
           use1 𝓛 (‵ (Slice κ d.script) ⊛ ‵ (Number d.at)) (opens 𝓛 κ d) $ split ! $
           move ! (1 ∷ 2 ∷ []) $ fjoin ! $ move ! (1 ∷ 0 ∷ []) $ fjoin ! $ done !
 
-      apart : Is (Row κ) d (T'.lowered d ∷ []) → ent 𝓤 (F.pre bound) (WpFn 𝓤 H C Λ (apart-fn τ k) (T'.lowered d ∷ []) (F.post bound))
+      apart : Is (Row κ) d (T'.lowered d ∷ []) → ent 𝓤 (F.requires bound) (WpFn 𝓤 H C Λ (apart-fn τ k) (T'.lowered d ∷ []) (F.post bound))
       apart is =
           let wt = typed 𝓛 κ d is in
-          qed 𝓛 (raw (F.pre bound) ∷ []) ∵ use1 𝓛 (raw (G.pre to)) (mono∗ 𝓤 goes asks) $ enter ! C Λ (apart-fn τ k) (T'.lowered d ∷ []) _ $
+          qed 𝓛 (raw (F.requires bound) ∷ []) ∵ use1 𝓛 (raw (G.requires to)) (mono∗ 𝓤 goes asks) $ enter ! C Λ (apart-fn τ k) (T'.lowered d ∷ []) _ $
           alloc1 ! (λ l₀. alloc1 ! (λ l₁. alloc1 ! (λ l₂. alloc1 ! (λ l₃. alloc0 ! $ params1 ! $ pass1 ! (init ! (loc 3 0 1) refl wt) $ pass0 ! $
           into ! (of_opd ! (part ! (loc 3 0 1) 0 refl refl refl)) (loc 3 0 2) refl (tt, wt.1.0) $
           into ! (of_opd ! (part ! (loc 3 0 1) 1 {d = 16} refl refl refl)) (loc 3 0 3) refl (tt, wt.1.1.0) $ move ! (8 ∷ []) $
@@ -163,12 +163,12 @@ module _ {M : Type 1} {𝓤 : Ura M} (𝓛 : Logic 𝓤) (R : RattleType) (τ : 
       abbrev Asks : SProp 𝓤
       Asks = (e (κ, tt) (d, tt)).requires gg
 
-      goes₂ : ent 𝓤 (⋆ 𝓛 (‵ ((Row κ).own d (T'.lowered d ∷ [])) ∷ (‵ (flft κ q) ⊛ ‵ ftrue) ∷ raw Asks ∷ [])) (G₂.pre to₂)
+      goes₂ : ent 𝓤 (⋆ 𝓛 (‵ ((Row κ).own d (T'.lowered d ∷ [])) ∷ (‵ (flft κ q) ⊛ ‵ ftrue) ∷ raw Asks ∷ [])) (G₂.requires to₂)
       goes₂ =
           qed 𝓛 (‵ ((Row κ).own d (T'.lowered d ∷ [])) ∷ (‵ (flft κ q) ⊛ ‵ ftrue) ∷ raw Asks ∷ []) ∵
           nothing ! $ move ! (1 ∷ 0 ∷ []) $ fjoin ! $ move ! (1 ∷ []) $ join ! $ frame ! $ done !
 
-      onward : Is (ShrSlice (named 0) κ u8) s (value_of s ∷ []) → ent 𝓤 (F₂.pre bound₂) (WpFn 𝓤 H C Λ (onward-fn τ k) args (F₂.post bound₂))
+      onward : Is (ShrSlice (named 0) κ u8) s (value_of s ∷ []) → ent 𝓤 (F₂.requires bound₂) (WpFn 𝓤 H C Λ (onward-fn τ k) args (F₂.post bound₂))
       onward is =
           qed 𝓛 (((‵ (flft κ q) ⊛ ‵ ftrue) ⊛ ‵ (owns (ShrSlice (named 0) κ u8 ∷ usize ∷ []) (s, (n, tt)) bound₂.0.4))
           ∷ raw ((c (κ, tt) (s, (n, tt))).requires gf) ∷ []) ∵
@@ -179,7 +179,7 @@ module _ {M : Type 1} {𝓤 : Ura M} (𝓛 : Logic 𝓤) (R : RattleType) (τ : 
           pass1 ! (init ! (loc 3 0 1) refl ((shr_slice_Lawful 𝓛 (named 0) κ u8).typed s (value_of s ∷ []) is).0) $
           pass1 ! (init ! (loc 3 0 2) refl (tt, record { fits = fits })) $ pass0 ! $ move ! (8 ∷ 9 ∷ []) $
           calls-reader_at 𝓛 mem run κ q s n ! fm maker (and_then ! (var ! (loc 3 2 1) refl) (and_then ! (var ! (loc 3 2 2) refl) (no_more !))) (λ made.
-          lands-in ! (loc 3 3 3) refl (typed-local 𝓛 κ d made) $ use3 𝓛 (raw (G₂.pre to₂)) goes₂ $
+          lands-in ! (loc 3 3 3) refl (typed-local 𝓛 κ d made) $ use3 𝓛 (raw (G₂.requires to₂)) goes₂ $
           calls-fn ! fm (held-ended R) e known to₂ φ (λ r ws. says gg r _) (and_then ! (var ! (loc 3 1 3) refl) (no_more !)) (λ u r x is'.
           lands-in ! (loc 3 2 0) refl (ok r u is') $ returns ! (look ! (loc 3 2 0) refl) $
           gone ! (loc 3 2 0) refl refl $ gone ! (loc 3 2 1) refl refl $ gone ! (loc 3 2 2) refl refl $ gone ! (loc 3 2 3) refl refl $ free0 ! $

@@ -177,10 +177,10 @@ module _ {M : Type 1} {𝓤 : Ura M} {𝓛 : Logic 𝓤} {K : Type 0} {Γ : List
   pub calls-fn : K → FmC 𝓤 H 𝓛.laws C → (T : Ended) (c : Clauses 𝓤 T) → Triple 𝓤 (C f) (contract_of 𝓛 T c)
       → (y : (contract_of 𝓛 T c).Ghost) (φ : Res T.signature y.0.0 → Type 0)
       → ((r : Res T.signature y.0.0) (ws : Bound 𝓛 T c y) → Ensures 𝓛 T c y r ws ≡ fact 𝓤 (φ r))
-      → Opds K 𝓛 (raw ((contract_of 𝓛 T c).pre y) ∷ Γ) E xs ((contract_of 𝓛 T c).args y)
+      → Opds K 𝓛 (raw ((contract_of 𝓛 T c).requires y) ∷ Γ) E xs ((contract_of 𝓛 T c).args y)
       → ((v : Val) (r : Res T.signature y.0.0) → φ r → Is (type_at T.signature.result y.0.0) r (v ∷ [])
       → Seq K 𝓛 (‵ (Result 𝓛 T c y r v) ∷ raw (tokens 𝓛 T c y) ∷ Γ) (lands C Λ E d v rest q))
-      → Seq K 𝓛 (raw ((contract_of 𝓛 T c).pre y) ∷ Γ) (runs C Λ E (seq (call f xs d) rest) q)
+      → Seq K 𝓛 (raw ((contract_of 𝓛 T c).requires y) ∷ Γ) (runs C Λ E (seq (call f xs d) rest) q)
   calls-fn t fm T c met y φ says-φ os k = calls_at t fm (contract_of 𝓛 T c) met y os (λ v.
       use1 𝓛 (later (some (λ (r : Res T.signature y.0.0). (raw (tokens 𝓛 T c y) ⊛ ‵ (Result 𝓛 T c y r v))
       ⊛ some (λ (ws : Bound 𝓛 T c y). ‵ (Last 𝓛 T c y ws) ⊛ raw (Ensures 𝓛 T c y r ws))))) (id⊢ 𝓤 _) $

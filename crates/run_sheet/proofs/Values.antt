@@ -11,7 +11,7 @@ use mir.Syntax.{w32}
 use mir.Val.{of_z, to_z}
 
 pub read_back : (z : ℤ) → mag z < 2147483648 → to_z w32 (of_z w32 z) ≡ z
-read_back z h = to_z-of_z (record { sfits = h })
+read_back z h = to_z-of_z {w = w32} (record { sfits = h })
 
 pub natural : {z : ℤ} {x : ℕ} → z ≡ pos x → lt_z z (pos 0) ≡ false
 natural {x = x} e = ap (λ (y : ℤ). lt_z y (pos 0)) e ∙ le-ltb x 0 (omega arith)

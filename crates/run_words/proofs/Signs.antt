@@ -14,10 +14,10 @@ use Rattle.language.specs.Encoding as encoding
 
 -- A word in a local is held as its bits.
 pub read_back : (z : ℤ) → mag z < 2147483648 → to_z w32 (of_z w32 z) ≡ z
-read_back z h = to_z-of_z (record { sfits = h })
+read_back z h = to_z-of_z {w = w32} (record { sfits = h })
 
 pub read-back-wide : (z : ℤ) → mag z < 9223372036854775808 → to_z w64 (of_z w64 z) ≡ z
-read-back-wide z h = to_z-of_z (record { sfits = h })
+read-back-wide z h = to_z-of_z {w = w64} (record { sfits = h })
 
 pub widened : (z : ℤ) → SFits w32 z → SFits w64 (to_z w32 (of_z w32 z))
 widened z f = subst (λ (v : ℤ). SFits w64 v) (sym (to_z-of_z f)) (sfits_widen tt f)

@@ -31,7 +31,7 @@ from_one a f = ap (le_z (pos 1)) (to_z-of_z f)
 
 -- A word in a local is held as its bits.
 pub back : (z : ℤ) → mag z < 2147483648 → to_z w32 (of_z w32 z) ≡ z
-back z h = to_z-of_z (record { sfits = h })
+back z h = to_z-of_z {w = w32} (record { sfits = h })
 
 pub same-cells : {r : Bool} {x y a b : ℤ} → r ≡ eq_z (to_z w32 (of_z w32 x)) (to_z w32 (of_z w32 y)) → mag x < 2147483648 → mag y < 2147483648 → x ≡ a → y ≡ b → r ≡ eq_z a b
 same-cells {x} {y} e h k p q = e ∙ ap₂ eq_z (back x h ∙ p) (back y k ∙ q)

@@ -45,10 +45,10 @@ matching-requires c κs =
     let k = place_of (marked_of c) in
     let f = found_of k in
     let st = start_of (read_of f) in (
-      st.pre.0,
+      st.requires.0,
       omega (arith, near k),
       search rules,
-      st.pre.1,
+      st.requires.1,
     )
 
 pub kinds_agree_spec : {M : Type 1} → statement M

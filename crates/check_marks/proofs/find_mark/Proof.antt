@@ -34,7 +34,7 @@ loop-again c =
     let w = b.before.args.letters in
     let more = turn.loop-i-test.true in
     ⊎_elim (λ x. at_other b.bit_of-bit.result w _ l.i _ more x.0.taken x.2.left)
-    (λ x. at-barred b.bit_of-bit.result w _ l.i _ more x.left) c.if-e-bit-eq1.branch
+    (λ x. at-barred b.bit_of-bit.result w _ l.i _ more x.left) c.if-e-bit-eq1.branch-raw
     ∙ l.invariant
 
 returns-2 : tie.Need-returns invariant-loop decreases-loop

@@ -53,7 +53,7 @@ loop-again c =
           (seen-hit a.names.now a.n a.base a.count l.i (omega arith) (omega arith) w.0.taken) w.1)
           (λ w. missed l.found l.invariant.1
           (seen-miss a.names.now a.n a.base a.count l.i (omega arith) (omega arith) w.0.left) w.1)
-          c.if-names-base.branch,
+          c.if-names-base.branch-raw,
     )
 
 pub seen_spec : {M : Type 1} → statement M

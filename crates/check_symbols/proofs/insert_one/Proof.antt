@@ -16,7 +16,7 @@ slice_write-entries-2 c =
     let st = start_of c in
     let a = st.args in
     let es = a.entries.now in
-    omega (arith, length-set es (a.at - 512) c.later.result, st.pre.0.long, mod-lt (get_or es a.at 0) {m = 256} (omega arith))
+    omega (arith, length-set es (a.at - 512) c.later.result, st.requires.0.long, mod-lt (get_or es a.at 0) {m = 256} (omega arith))
 
 pub insert_one_spec : {M : Type 1} → statement M
 insert_one_spec =

@@ -55,7 +55,7 @@ end_is : (c : tie.After-end_of-end) → let a = (start_of (from_end c)).args in 
 end_is c = c.end_of_lem.ensures.0 ∙ ap end_in (words_of (from_end c)).before.code_at-bounds.ensures.0
 
 renew-requires : tie.Need-renew-requires
-renew-requires c κs = let p = parts_of c.before.before in renewable (start_of p).pre (head p)
+renew-requires c κs = let p = parts_of c.before.before in renewable (start_of p).requires (head p)
 
 room : (c : tie.After-renew) → (start_of (parts_of (named_of c))).args.here.live + 1 < 256
 room c = (start_of (parts_of (named_of c))).requires.room
@@ -63,22 +63,22 @@ room c = (start_of (parts_of (named_of c))).requires.room
 mul-copy_text : tie.Need-overflow_mul-copy_text
 mul-copy_text c =
     let s = start_of (from_end (end_of c)) in
-    search (rules, room_small s.pre s.args.link (omega (arith, s.pre.link-high)))
+    search (rules, room_small s.requires s.args.link (omega (arith, s.requires.link-high)))
 
 mul-copy_text-2 : tie.Need-overflow_mul-copy_text-2
 mul-copy_text-2 c =
     let s = start_of (from_end (end_of c)) in
-    search (rules, room_small s.pre (s.args.here.live + 1) (omega arith))
+    search (rules, room_small s.requires (s.args.here.live + 1) (omega arith))
 
 copy_text-requires : tie.Need-copy_text-requires
 copy_text-requires c κs =
     let e = end_of c in
     let p = from_end e in
-    copyable (start_of p).pre (head p) (end_is e)
+    copyable (start_of p).requires (head p) (end_is e)
 
 few : (c : tie.After-clear-arg-1) → let p = from_text (copied_of c) in
     (p.before.formals_of-formals.result ≤ 32) × (p.before.before.names_of-count.result ≤ 32) × ((start_of p).args.here.live + 1 < 256)
-few c = let p = from_text (copied_of c) in few-names (start_of p).pre (head p)
+few c = let p = from_text (copied_of c) in few-names (start_of p).requires (head p)
 
 returns : tie.Need-returns
 returns c =
@@ -88,7 +88,7 @@ returns c =
     let r = e.before in
     let m = named_of r in
     let p = parts_of m in
-    entered (start_of p).pre (head p) (end_is e) (c.first_of.ensures ∙ ap first_in (words_of p).before.code_at-bounds.ensures.0) (noted_of m).note.ensures
+    entered (start_of p).requires (head p) (end_is e) (c.first_of.ensures ∙ ap first_in (words_of p).before.code_at-bounds.ensures.0) (noted_of m).note.ensures
     m.note_names.ensures r.renew.ensures k.copy_text.ensures.0 k.copy_text.ensures.1 z.clear.ensures
 
 pub enter_spec : {M : Type 1} → statement M

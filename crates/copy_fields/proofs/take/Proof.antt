@@ -29,7 +29,7 @@ loop-again c =
     let a = c.before.before.before.args in
     let place = a.from + l.i in
     let w = get_or a.code.now place 0 in
-    let put : c.if-place-lt4096.names-1 ≡ set l.names-1 place w = ⊎_elim (λ x. x.2) (λ x. x.1 ∙ past_end l.names-1 place w l.invariant.1 (omega (arith, x.0.left))) c.if-place-lt4096.branch in (
+    let put : c.if-place-lt4096.names-1 ≡ set l.names-1 place w = ⊎_elim (λ x. x.2) (λ x. x.1 ∙ past_end l.names-1 place w l.invariant.1 (omega (arith, x.0.left))) c.if-place-lt4096.branch-raw in (
       omega arith,
       ap length put ∙ length-set l.names-1 place w ∙ l.invariant.1,
       search (rules, taken_next),

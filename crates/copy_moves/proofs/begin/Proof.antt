@@ -35,7 +35,7 @@ copy_text-requires : tie.Need-copy_text-requires
 copy_text-requires c κs =
     let f = fill_of (word_of c) in
     let e = end_of f in
-    start-copyable (start_of e).pre f.fill.ensures.1 (end_is e)
+    start-copyable (start_of e).requires f.fill.ensures.1 (end_is e)
 
 returns : tie.Need-returns
 returns c =
@@ -45,7 +45,7 @@ returns c =
     let f = fill_of w in
     let e = end_of f in
     let n = e.before in
-    begun (start_of e).pre f.fill.ensures.1 (end_is e) (a.first_of.ensures ∙ ap first_in n.code_at-bounds.ensures.0)
+    begun (start_of e).requires f.fill.ensures.1 (end_is e) (a.first_of.ensures ∙ ap first_in n.code_at-bounds.ensures.0)
     (c.names_of.ensures ∙ ap names_in n.before.code_at-head.ensures.0) w.code_at.ensures.0 f.fill.ensures.0 k.before.before.before.renew.ensures
     k.copy_text.ensures.0 k.copy_text.ensures.1
 

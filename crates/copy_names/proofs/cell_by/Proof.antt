@@ -40,13 +40,13 @@ programs c =
     let s = start_of c.before in
     let a = s.args in
     let test = c.if-name-first_of.true in
-    sym (owner-program a.firsts.now a.live a.name s.pre.1.sorted (omega (arith, c.before.first_of.ensures.0)))
+    sym (owner-program a.firsts.now a.live a.name s.requires.1.sorted (omega (arith, c.before.first_of.ensures.0)))
 
 cell_in-requires : tie.Need-cell_in-requires
 cell_in-requires c κs =
     let s = start_of c.before in
     let a = s.args in
-    cell-asks a.firsts.now a.starts.now a.live a.name 0 (programs c) (omega arith) s.pre.1
+    cell-asks a.firsts.now a.starts.now a.live a.name 0 (programs c) (omega arith) s.requires.1
 
 returns-2 : tie.Need-returns-then-name-first_of
 returns-2 c =
@@ -57,7 +57,7 @@ cell_in-requires-2 : tie.Need-cell_in-requires-2
 cell_in-requires-2 c κs =
     let s = start_of c.before.before in
     let a = s.args in
-    let p = s.pre.1 in
+    let p = s.requires.1 in
     let o = c.outer_owner in
     cell-asks a.firsts.now a.starts.now a.live a.name o.result o.ensures.0 (omega (arith, o.ensures.1, p.few)) p
 

@@ -31,13 +31,13 @@ loop-again c =
     let l = t.loop-high in
     let st = t.before in
     let a = st.args in
-    let up : l.low ≤ (l.low + l.high) / 2 = omega (arith, l.inv.0) in
-    let down : (l.low + l.high) / 2 ≤ l.high = omega (arith, l.inv.0) in
+    let up : l.low ≤ (l.low + l.high) / 2 = omega (arith, l.invariant.0) in
+    let down : (l.low + l.high) / 2 ≤ l.high = omega (arith, l.invariant.0) in
     let test = c.if-first_of-name.true in (
       down,
-      l.inv.1,
-      narrowed-up a.firsts.now a.live l.low l.high a.name ((l.low + l.high) / 2) up (omega (arith, l.inv.1))
-          (omega (arith, c.before.first_of.ensures.0)) l.inv.2,
+      l.invariant.1,
+      narrowed-up a.firsts.now a.live l.low l.high a.name ((l.low + l.high) / 2) up (omega (arith, l.invariant.1))
+          (omega (arith, c.before.first_of.ensures.0)) l.invariant.2,
     )
 
 loop-again-2 : tie.Need-loop-high-preserved invariant-loop decreases-loop
@@ -46,13 +46,13 @@ loop-again-2 c =
     let l = t.loop-high in
     let st = t.before in
     let a = st.args in
-    let up : l.low ≤ (l.low + l.high) / 2 = omega (arith, l.inv.0) in
-    let down : (l.low + l.high) / 2 ≤ l.high = omega (arith, l.inv.0) in
+    let up : l.low ≤ (l.low + l.high) / 2 = omega (arith, l.invariant.0) in
+    let down : (l.low + l.high) / 2 ≤ l.high = omega (arith, l.invariant.0) in
     let test = c.if-first_of-name.false in (
       up,
-      omega (arith, l.inv.1),
-      narrowed-down a.firsts.now a.live l.low l.high a.name ((l.low + l.high) / 2) st.pre.1
-          (omega (arith, c.before.first_of.ensures.0)) l.inv.2,
+      omega (arith, l.invariant.1),
+      narrowed-down a.firsts.now a.live l.low l.high a.name ((l.low + l.high) / 2) st.requires.1
+          (omega (arith, c.before.first_of.ensures.0)) l.invariant.2,
     )
 
 returns : tie.Need-returns invariant-loop decreases-loop

@@ -35,55 +35,55 @@ do_arithmetic-requires : tie.Need-do_arithmetic-requires
 unfolding mark_of
 do_arithmetic-requires c κs =
     let s = start_of c.before.before in
-    arithmetic-asks (copy s) (scene s) s.pre (mark c.before.before c.before.in-21057.keys1)
+    arithmetic-asks (copy s) (scene s) s.requires (mark c.before.before c.before.in-21057.keys1)
 
 do_branch-requires : tie.Need-do_branch-requires
 unfolding mark_of
 do_branch-requires c κs =
     let s = start_of c.before.before in
-    branch-asks (copy s) (scene s) s.pre (mark c.before.before c.before.in-21057.keys2)
+    branch-asks (copy s) (scene s) s.requires (mark c.before.before c.before.in-21057.keys2)
 
 do_constant-requires : tie.Need-do_constant-requires
 unfolding mark_of
 do_constant-requires c κs =
     let s = start_of c.before.before in
-    constant-asks (copy s) (scene s) s.pre (mark c.before.before c.before.in-21057.keys3)
+    constant-asks (copy s) (scene s) s.requires (mark c.before.before c.before.in-21057.keys3)
 
 do_call-requires : tie.Need-do_call-requires
 unfolding mark_of
 do_call-requires c κs =
     let s = start_of c.before.before in
-    call_asks (copy s) (scene s) s.pre (mark c.before.before c.before.in-21057.keys4)
+    call_asks (copy s) (scene s) s.requires (mark c.before.before c.before.in-21057.keys4)
 
 do_goto-requires : tie.Need-do_goto-requires
 unfolding mark_of
 do_goto-requires c κs =
     let s = start_of c.before in
-    goto-asks (copy s) (scene s) s.pre (mark c.before c.in-21057.keys5)
+    goto-asks (copy s) (scene s) s.requires (mark c.before c.in-21057.keys5)
 
 do_block-requires : tie.Need-do_block-requires
 unfolding mark_of
 do_block-requires c κs =
     let s = start_of c.before in
-    block-asks (copy s) (scene s) s.pre (mark c.before c.in-21057.keys6)
+    block-asks (copy s) (scene s) s.requires (mark c.before c.in-21057.keys6)
 
 do_add_pair-requires : tie.Need-do_add_pair-requires
 unfolding mark_of
 do_add_pair-requires c κs =
     let s = start_of c.before in
-    pair-asks (copy s) (scene s) s.pre (mark c.before c.in-21057.keys7)
+    pair-asks (copy s) (scene s) s.requires (mark c.before c.in-21057.keys7)
 
 do_remove_pair-requires : tie.Need-do_remove_pair-requires
 unfolding mark_of
 do_remove_pair-requires c κs =
     let s = start_of c.before in
-    unpair-asks (copy s) (scene s) s.pre (mark c.before c.in-21057.keys8)
+    unpair-asks (copy s) (scene s) s.requires (mark c.before c.in-21057.keys8)
 
 do_query-requires : tie.Need-do_query-requires
 unfolding mark_of
 do_query-requires c κs =
     let s = start_of c.before in
-    query-asks (copy s) (scene s) s.pre (other c)
+    query-asks (copy s) (scene s) s.requires (other c)
 
 returns : tie.Need-returns-in-21057
 unfolding mark_of

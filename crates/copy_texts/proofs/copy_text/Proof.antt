@@ -30,20 +30,20 @@ loop-holds c =
 slice_reshared_read-renew : tie.Need-slice_reshared_read-renew invariant-loop decreases-loop
 slice_reshared_read-renew c =
     let l = (turn_of c.before).before in
-    omega (arith, (start_of l).pre.old-room, l.loop-q.inv.2.as_long)
+    omega (arith, (start_of l).requires.old-room, l.loop-q.invariant.2.as_long)
 
 renew-requires : tie.Need-renew-requires invariant-loop decreases-loop
 renew-requires c κs =
     let w = c.before in
     let u = turn_of w in
     let l = u.before in
-    renewable _ _ _ _ _ _ _ _ _ _ (start_of l).pre l.loop-q.area l.loop-q.q l.loop-q.inv.0 u.loop-q-test.taken l.loop-q.inv.2
+    renewable _ _ _ _ _ _ _ _ _ _ (start_of l).requires l.loop-q.area l.loop-q.q l.loop-q.invariant.0 u.loop-q-test.taken l.loop-q.invariant.2
     w.from_u32-word.result w.from_u32-word.ensures.0
 
 slice_write-area : tie.Need-bounds-area-to invariant-loop decreases-loop
 slice_write-area c =
     let l = (turn_of c.before.before).before in
-    omega (arith, (start_of l).pre.new-room, l.loop-q.inv.2.as_long)
+    omega (arith, (start_of l).requires.new-room, l.loop-q.invariant.2.as_long)
 
 loop-again : tie.Need-loop-q-preserved invariant-loop decreases-loop
 loop-again c =
@@ -54,10 +54,10 @@ loop-again c =
     let s = start_of l in (
       omega arith,
       omega arith,
-      copied_more _ _ _ _ _ _ _ _ _ _ s.pre l.loop-q.area l.loop-q.q l.loop-q.inv.0 u.loop-q-test.taken l.loop-q.inv.2
+      copied_more _ _ _ _ _ _ _ _ _ _ s.requires l.loop-q.area l.loop-q.q l.loop-q.invariant.0 u.loop-q-test.taken l.loop-q.invariant.2
           w.from_u32-word.result n.renew.result w.from_u32-word.ensures.0 n.renew.ensures,
       notes-more s.args.names.now s.args.lowest s.args.level l.loop-q.targets c.note.new.0 l.loop-q.q s.args.end w.from_u32-word.result
-          u.loop-q-test.taken w.from_u32-word.ensures.0 c.note.ensures ∙ l.loop-q.inv.3,
+          u.loop-q-test.taken w.from_u32-word.ensures.0 c.note.ensures ∙ l.loop-q.invariant.3,
     )
 
 same_length : tie.Need-shape_of-area invariant-loop decreases-loop
@@ -67,7 +67,7 @@ returns : tie.Need-returns invariant-loop decreases-loop
 returns c =
     let l = c.before.loop-q in
     let s = start_of c.before in (
-      copied_all _ _ _ _ _ _ _ _ _ _ s.pre l.area l.q l.invariant.1 c.loop-q-test.false l.invariant.2,
+      copied_all _ _ _ _ _ _ _ _ _ _ s.requires l.area l.q l.invariant.1 c.loop-q-test.false l.invariant.2,
       notes-done s.args.names.now s.args.lowest s.args.level l.targets l.q s.args.end c.loop-q-test.false ∙ l.invariant.3,
     )
 

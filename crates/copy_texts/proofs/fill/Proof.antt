@@ -32,9 +32,9 @@ loop-again c =
     let l = t.loop-i in
     let s = start_of t in (
       omega arith,
-      length-set l.area l.i c.field.result ∙ l.inv.1,
-      filled_more s.args.script.now l.area l.i c.field.result (omega (arith, s.pre, l.inv.1))
-          (field-read s.args.script.now (2 * l.i) c.field.result c.field.ensures) l.inv.2,
+      length-set l.area l.i c.field.result ∙ l.invariant.1,
+      filled_more s.args.script.now l.area l.i c.field.result (omega (arith, s.requires, l.invariant.1))
+          (field-read s.args.script.now (2 * l.i) c.field.result c.field.ensures) l.invariant.2,
     )
 
 same_length : tie.Need-shape_of-area invariant-loop decreases-loop

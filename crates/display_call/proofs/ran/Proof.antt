@@ -42,7 +42,7 @@ run_program-requires : tie.Need-run_program-halt-requires
 run_program-requires c κs =
     let s = state_at c in
     let z = resolved_at s in
-    let p = (start_at z).pre in
+    let p = (start_at z).requires in
     (beginning (bytes_at z) p.1 (resolved-covers _ _ _ z.resolve.ensures _ p.1.script) s.start_state-state.ensures, (_, call-lists p.1))
 
 write_sheet-requires : tie.Need-write_sheet-written-requires
@@ -51,12 +51,12 @@ write_sheet-requires c κs =
     let u = ran_at c in
     let s = state_at u.before in
     let z = resolved_at s in
-    let p = (start_at z).pre in
+    let p = (start_at z).requires in
     let covers = resolved-covers _ _ _ z.resolve.ensures _ p.1.script in
     sheet-needs (bytes_at z) p.1 covers (u.run_program-halt.ensures.0 (beginning (bytes_at z) p.1 covers s.start_state-state.ensures))
 
 ran_answer-requires : tie.Need-ran_answer-requires
-ran_answer-requires c κs = tally-fits (start_at (resolved_at (state_at (ran_at c.before.before).before))).pre.1
+ran_answer-requires c κs = tally-fits (start_at (resolved_at (state_at (ran_at c.before.before).before))).requires.1
 
 returns : tie.Need-returns
 unfolding frame_run_of
@@ -65,7 +65,7 @@ returns c =
     let u = ran_at v.before in
     let s = state_at u.before in
     let z = resolved_at s in
-    let p = (start_at z).pre in
+    let p = (start_at z).requires in
     let covers = resolved-covers _ _ _ z.resolve.ensures _ p.1.script in
     run-replies (bytes_at z) p.1 covers (u.run_program-halt.ensures.0 (beginning (bytes_at z) p.1 covers s.start_state-state.ensures))
     v.write_sheet-written.ensures u.run_program-halt.ensures.1 (no-links display (fed_at z) _ refl) c.ran_answer.ensures

@@ -29,7 +29,7 @@ fits s = entry-fits s.requires.running s.args.body s.args.link s.args.back s.arg
 link_to-requires : tie.Need-link_to-requires
 link_to-requires c κs =
     let s = start_of c.before.before.before in
-    linkable s.pre.running s.args.body s.args.link s.args.back s.args.cells.now s.pre.enters
+    linkable s.requires.running s.args.body s.args.link s.args.back s.args.cells.now s.requires.enters
 
 clear-requires : tie.Need-clear-requires
 clear-requires c κs =

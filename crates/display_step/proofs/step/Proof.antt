@@ -27,26 +27,26 @@ asked-requires : tie.Need-asked-requires
 asked-requires c κs =
     let p = asked_of c in
     let a = p.before.before in
-    (asked-there (start_of a).pre.0 (inside a).if-at-here.left _ _ a.act.ensures _ _ _ _ _ p.place-in-Table-1.given.1, (start_of a).pre.1)
+    (asked-there (start_of a).requires.0 (inside a).if-at-here.left _ _ a.act.ensures _ _ _ _ _ p.place-in-Table-1.given.1, (start_of a).requires.1)
 
 enter-requires : tie.Need-enter-requires
 enter-requires c κs =
     let b = entered_of c in
     let a = b.before.before in
-    enter-ready (start_of a).pre.0 (inside a).if-at-here.left _ _ a.act.ensures _ _ _ b.body-1.given.1
+    enter-ready (start_of a).requires.0 (inside a).if-at-here.left _ _ a.act.ensures _ _ _ b.body-1.given.1
 
 -- the list stays where it was, and the table too
 abbrev jumped-lists : (c : tie.After-jump) → let s = start_of (jumped_of c).before.before in KeepsList s.args.limit s.args.table-1.now s.args.here.pairs s.args.groups-1.now s.args.table-1.now c.jump.result.pairs s.args.groups-1.now
 jumped-lists c =
     let h = jumped_of c in
     let a = h.before.before in
-    jumped-keeps (start_of a).pre.0 (inside a).if-at-here.left _ _ a.act.ensures _ _ h.home-1.given.1 _ _ c.jump.ensures _
+    jumped-keeps (start_of a).requires.0 (inside a).if-at-here.left _ _ a.act.ensures _ _ h.home-1.given.1 _ _ c.jump.ensures _
 
 abbrev entered-lists : (c : tie.After-enter) → let s = start_of (entered_of c.before).before.before in KeepsList s.args.limit s.args.table-1.now s.args.here.pairs s.args.groups-1.now s.args.table-1.now c.enter.result.pairs s.args.groups-1.now
 entered-lists c =
     let b = entered_of c.before in
     let a = b.before.before in
-    entered-keeps (start_of a).pre.0 (inside a).if-at-here.left _ _ a.act.ensures _ _ _ b.body-1.given.1 _ _ _ _ _ _ c.enter.ensures _
+    entered-keeps (start_of a).requires.0 (inside a).if-at-here.left _ _ a.act.ensures _ _ _ b.body-1.given.1 _ _ _ _ _ _ c.enter.ensures _
 
 pub step_spec : {M : Type 1} → statement M
 step_spec =

@@ -19,7 +19,7 @@ returns c =
     let put = c.before.before in
     let noted = noted_of put in
     let placed = placed_of noted in
-    let p = (start_of placed).pre in
+    let p = (start_of placed).requires in
     declares _ _ _ _ _ _ _ _ _ _ _ _ _ _ _ p.d-read p.s_read p.starts-1 placed.places-first.kept.1.1.0 noted.note_statements.kept.1.1.0 p.room
     placed.places-first.ensures noted.note_statements.ensures put.push_own.ensures
 

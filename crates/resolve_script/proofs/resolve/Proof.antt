@@ -31,7 +31,7 @@ returns-2 c =
     let lent = lent_of emptied in
     let bs = lent.before.args.script.now in
     λ t x. words_are bs (bytes-are bs (λ i. (lent.shared_slice_known-1.given i).fits)) t x _ _ _ _ _
-    (le_of_eq emptied.empty_chains.ensures.long) lent.before.pre walked.block.ensures.0
+    (le_of_eq emptied.empty_chains.ensures.long) lent.before.requires walked.block.ensures.0
 
 pub resolve_spec : {M : Type 1} → statement M
 resolve_spec =

@@ -48,13 +48,13 @@ write_activation-requires c κs =
     let n = next_of v in
     let b = block_of n in
     let u = loop_of b in
-    let p = u.before.pre.0 in
+    let p = u.before.requires.0 in
     let k = u.loop-k.k in
     let l : k < length p.0 = omega (arith, p.2) in
     let w = get_elem-in p.0 k l in
-    let i = u.loop-k.inv in
+    let i = u.loop-k.invariant in
     let f = p.1.bounded k w.0 w.1 in
-    (w.0.next, w.0.words, shown-at p.1 k w.0 w.1 _ _ b.from_u16.ensures.0 n.from_u16-in-loop-k.ensures.0, omega (arith, f.few, i.1, (i.2 p.0 p.1 p.2).1, sheet-room p.1 k (omega arith), u.before.pre.1, p.2), encloser-few p.1 k w.0 w.1 (encloser-read v))
+    (w.0.next, w.0.words, shown-at p.1 k w.0 w.1 _ _ b.from_u16.ensures.0 n.from_u16-in-loop-k.ensures.0, omega (arith, f.few, i.1, (i.2 p.0 p.1 p.2).1, sheet-room p.1 k (omega arith), u.before.requires.1, p.2), encloser-few p.1 k w.0 w.1 (encloser-read v))
 
 loop-again : tie.Need-loop-k-preserved invariant-loop decreases-loop
 loop-again c =
@@ -64,12 +64,12 @@ loop-again c =
     let k = u.loop-k.k in
     let r = c.before.write_activation-at.ensures in (
       omega arith,
-      r.1 ∙ u.loop-k.inv.1,
+      r.1 ∙ u.loop-k.invariant.1,
       λ fs h l.
           let b : k < length fs = omega arith in
           let w = get_elem-in fs k b in
           let f = w.0 in
-          let i = u.loop-k.inv.2 fs h l in
+          let i = u.loop-k.invariant.2 fs h l in
           let block = (block_of n).from_u16.ensures.0 in
           let q = r.0 f.next f.words (frame_sheet (take k fs)) u.before.args.sheet-1.now (shown-at h k f w.1 _ _ block n.from_u16-in-loop-k.ensures.0) i.0 (sym i.1) in
           (q.0 ∙ ap (λ (x : List ℤ). written x u.before.args.sheet-1.now) (sheet-on h k f w.1 _ _ block (encloser-read v)), q.1 ∙ sheet-on-length h k f w.1 u.loop-k.at i.1),

@@ -40,7 +40,7 @@ returns c =
     let l = loop_of k in
     let s = l.before.args in
     kinds-differ s.code.now s.arguments s.formals s.count l.loop-i.i k.before.before.loop-i-test.true
-    (λ e. c.if-kind_of-code_at.true (read k ∙ e ∙ sym c.before.code_at-in-loop-i.ensures.0)) ∙ l.loop-i.inv.1
+    (λ e. c.if-kind_of-code_at.true (read k ∙ e ∙ sym c.before.code_at-in-loop-i.ensures.0)) ∙ l.loop-i.invariant.1
 
 loop-again : tie.Need-loop-i-preserved invariant-loop decreases-loop
 loop-again c =
@@ -49,7 +49,7 @@ loop-again c =
     let s = l.before.args in (
       omega arith,
       kinds-same s.code.now s.arguments s.formals s.count l.loop-i.i k.before.before.loop-i-test.true
-          (sym (read k) ∙ c.if-kind_of-code_at.false ∙ c.before.code_at-in-loop-i.ensures.0) ∙ l.loop-i.inv.1,
+          (sym (read k) ∙ c.if-kind_of-code_at.false ∙ c.before.code_at-in-loop-i.ensures.0) ∙ l.loop-i.invariant.1,
     )
 
 returns-2 : tie.Need-returns invariant-loop decreases-loop

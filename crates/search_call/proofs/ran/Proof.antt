@@ -54,7 +54,7 @@ run_program-requires c κs =
     let s = state_at c in
     let g = numbered_at s in
     let z = resolved_at g in
-    let p = (start_at z).pre in
+    let p = (start_at z).requires in
     (beginning (bytes_at z) p.1 (resolved-covers _ _ _ z.resolve.ensures _ p.1.script) g.number_names.ensures.0 s.start_state-state.ensures, (_, call-lists p.1))
 
 find_links-requires : tie.Need-find_links-requires
@@ -63,7 +63,7 @@ find_links-requires c κs =
     let s = state_at u.before in
     let g = numbered_at s in
     let z = resolved_at g in
-    let p = (start_at z).pre in
+    let p = (start_at z).requires in
     let b = beginning (bytes_at z) p.1 (resolved-covers _ _ _ z.resolve.ensures _ p.1.script) g.number_names.ensures.0 s.start_state-state.ensures in
     (end-linkable b (u.run_program-halt.ensures.0 b), length-replicate {A = ℕ} 256 0)
 
@@ -75,13 +75,13 @@ write_sheet-requires c κs =
     let s = state_at u.before in
     let g = numbered_at s in
     let z = resolved_at g in
-    let p = (start_at z).pre in
+    let p = (start_at z).requires in
     let covers = resolved-covers _ _ _ z.resolve.ensures _ p.1.script in
     let b = beginning (bytes_at z) p.1 covers g.number_names.ensures.0 s.start_state-state.ensures in
     sheet-needs (bytes_at z) p.1 covers (end-linked b (u.run_program-halt.ensures.0 b) refl n.find_links.ensures)
 
 ran_answer-requires : tie.Need-ran_answer-requires
-ran_answer-requires c κs = tally-fits (start_at (resolved_at (numbered_at (state_at (ran_at (linked_at c.before.before).before).before)))).pre.1
+ran_answer-requires c κs = tally-fits (start_at (resolved_at (numbered_at (state_at (ran_at (linked_at c.before.before).before).before)))).requires.1
 
 returns : tie.Need-returns
 unfolding frame_run_of
@@ -92,7 +92,7 @@ returns c =
     let s = state_at u.before in
     let g = numbered_at s in
     let z = resolved_at g in
-    let p = (start_at z).pre in
+    let p = (start_at z).requires in
     let covers = resolved-covers _ _ _ z.resolve.ensures _ p.1.script in
     let b = beginning (bytes_at z) p.1 covers g.number_names.ensures.0 s.start_state-state.ensures in
     run-replies (bytes_at z) p.1 covers (end-linked b (u.run_program-halt.ensures.0 b) refl n.find_links.ensures) v.write_sheet-written.ensures

@@ -20,7 +20,7 @@ abbrev turn_of : tie.After-link_of invariant-loop decreases-loop → tie.In-loop
 turn_of c = c.before
 
 few : (c : tie.After-link_of invariant-loop decreases-loop) → (turn_of c).before.loop-k.k < 256
-few c = let t = turn_of c in (t.before.before.pre.0 t.before.loop-k.k (omega arith)).few
+few c = let t = turn_of c in (t.before.before.requires.0 t.before.loop-k.k (omega arith)).few
 
 link_of-requires : tie.Need-link_of-requires invariant-loop decreases-loop
 link_of-requires c κs = placed c.before.loop-k.invariant c.before.before.requires.0 (omega arith)
@@ -35,7 +35,7 @@ add-k : tie.Need-overflow_add-k invariant-loop decreases-loop
 add-k c = let h = few c in search rules
 
 loop-again : tie.Need-loop-k-preserved invariant-loop decreases-loop
-loop-again c = one_more (turn_of c).before.loop-k.inv (omega arith) (few c) c.link_of.ensures.0
+loop-again c = one_more (turn_of c).before.loop-k.invariant (omega arith) (few c) c.link_of.ensures.0
 
 returns : tie.Need-returns invariant-loop decreases-loop
 returns c = all_found c.before.loop-k.invariant (omega arith)

@@ -29,10 +29,10 @@ onward-requires : tie.Need-onward-k-requires invariant-loop decreases-loop
 onward-requires c κs = let l = c.before.before.before in (omega arith, (heads _ _ _ _ _ _ l.loop-k.invariant l.before.requires).0)
 
 loop-less : tie.Need-loop-k-smaller invariant-loop decreases-loop
-loop-less c = let l = (turn_of c).before in below _ _ _ _ _ _ l.loop-k.inv l.before.pre (omega arith) c.onward-k.ensures
+loop-less c = let l = (turn_of c).before in below _ _ _ _ _ _ l.loop-k.invariant l.before.requires (omega arith) c.onward-k.ensures
 
 loop-again : tie.Need-loop-k-preserved invariant-loop decreases-loop
-loop-again c = let l = (turn_of c).before in onward _ _ _ _ _ _ l.loop-k.inv l.before.pre (omega arith) (omega arith) c.onward-k.ensures
+loop-again c = let l = (turn_of c).before in onward _ _ _ _ _ _ l.loop-k.invariant l.before.requires (omega arith) (omega arith) c.onward-k.ensures
 
 pub shallower_spec : {M : Type 1} → statement M
 shallower_spec =

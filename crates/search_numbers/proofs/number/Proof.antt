@@ -32,7 +32,7 @@ loop-again c =
     let place = a.from + l.i in
     let w = number_at a.code.now a.around.now place in
     let put : c.if-place-lt4096.numbers ≡ set l.numbers place w =
-    ⊎_elim (λ x. x.2 ∙ ap (set l.numbers place) x.1.ensures) (λ x. x.1 ∙ past_end l.numbers place w l.invariant.1 (omega (arith, x.0.left))) c.if-place-lt4096.branch in (
+    ⊎_elim (λ x. x.2 ∙ ap (set l.numbers place) x.1.ensures) (λ x. x.1 ∙ past_end l.numbers place w l.invariant.1 (omega (arith, x.0.left))) c.if-place-lt4096.branch-raw in (
       omega arith,
       ap length put ∙ length-set l.numbers place w ∙ l.invariant.1,
       search (rules, taken_next),

@@ -27,25 +27,25 @@ leave-requires : tie.Need-leave-requires
 leave-requires c κs =
     let e = c.before.before in
     let s = start_at e in
-    leave-ready s.pre.0 (above_zero s.args.here.live e.if-live-eq0.false)
+    leave-ready s.requires.0 (above_zero s.args.here.live e.if-live-eq0.false)
 
 asked-requires : tie.Need-asked-requires
 asked-requires c κs =
     let p = asked_of c in
     let a = p.before.before in
-    (asked-there (start_of a).pre.0 (inside a).if-at-here.left a.act.ensures p.place-in-Table-1.given.1, (start_of a).pre.1)
+    (asked-there (start_of a).requires.0 (inside a).if-at-here.left a.act.ensures p.place-in-Table-1.given.1, (start_of a).requires.1)
 
 jump-requires : tie.Need-jump-requires
 jump-requires c κs =
     let h = c.before.before in
     let a = h.before.before in
-    jump-ready (start_of a).pre.0 (inside a).if-at-here.false a.act.ensures h.place-in-Jump-1.given.1
+    jump-ready (start_of a).requires.0 (inside a).if-at-here.false a.act.ensures h.place-in-Jump-1.given.1
 
 enter-requires : tie.Need-enter-requires
 enter-requires c κs =
     let b = body_of c in
     let a = b.before.before in
-    enter-ready (start_of a).pre.0 (inside a).if-at-here.left a.act.ensures b.body-1.given.1
+    enter-ready (start_of a).requires.0 (inside a).if-at-here.left a.act.ensures b.body-1.given.1
 
 returns-2 : tie.Need-returns-then-at-here
 returns-2 c =
@@ -53,7 +53,7 @@ returns-2 c =
     let s = start_at e in
     let ended = e.before.if-at-here.true in
     let below = above_zero s.args.here.live e.if-live-eq0.false in
-    (record { turned = λ w. left-on w ended below c.leave.ensures }, left-keeps s.pre.0 ended below c.leave.ensures _)
+    (record { turned = λ w. left-on w ended below c.leave.ensures }, left-keeps s.requires.0 ended below c.leave.ensures _)
 
 returns-3 : tie.Need-returns-in-Went
 returns-3 c =
@@ -76,7 +76,7 @@ returns-5 c =
     let h = c.before.before.before in
     let a = h.before.before in (
       record { turned = λ w. jumped-on w (inside a).if-at-here.false a.act.ensures h.place-in-Jump-1.given.1 c.jump.ensures },
-      jumped-keeps (start_of a).pre.0 (inside a).if-at-here.false a.act.ensures h.place-in-Jump-1.given.1 c.jump.ensures _,
+      jumped-keeps (start_of a).requires.0 (inside a).if-at-here.false a.act.ensures h.place-in-Jump-1.given.1 c.jump.ensures _,
     )
 
 returns-6 : tie.Need-returns-in-Enter
@@ -84,7 +84,7 @@ returns-6 c =
     let b = body_of c.before in
     let a = b.before.before in (
       record { turned = λ w. entered_on w (inside a).if-at-here.left a.act.ensures b.body-1.given.1 c.enter.ensures },
-      entered-keeps (start_of a).pre.0 (inside a).if-at-here.left a.act.ensures b.body-1.given.1 c.enter.ensures _,
+      entered-keeps (start_of a).requires.0 (inside a).if-at-here.left a.act.ensures b.body-1.given.1 c.enter.ensures _,
     )
 
 returns-7 : tie.Need-returns-in-Stop

@@ -23,7 +23,7 @@ loop-holds c =
     (omega arith, omega arith, omega arith, refl, gathered_none s.args.table.now s.args.from s.args.first s.args.span s.args.block.now)
 
 natural : (c : tie.In-loop-i invariant-loop decreases-loop) → let s = start_of c.before in Natural (group_at c.before.loop-i.i s.args.table.now)
-natural c = let (words, (naturals, more)) = (start_of c.before).pre in naturals c.before.loop-i.i (omega arith)
+natural c = let (words, (naturals, more)) = (start_of c.before).requires in naturals c.before.loop-i.i (omega arith)
 
 natural_at-requires : tie.Need-natural_at-group-requires invariant-loop decreases-loop
 natural_at-requires c κs = (omega arith, natural c)
@@ -40,12 +40,12 @@ loop-again c =
     let same = gathered-same s.args.table.now s.args.from l.loop-i.i s.args.first s.args.span block l.loop-i.n x l.loop-i.invariant.4 (omega arith) (natural r.before) r.natural_at-group.ensures.0 (omega arith) in (
       omega arith,
       omega arith,
-      ⊎_elim (λ w. omega (arith, w.1)) (λ w. omega (arith, w.1)) c.if-between.branch,
+      ⊎_elim (λ w. omega (arith, w.1)) (λ w. omega (arith, w.1)) c.if-between.branch-raw,
       simp length-set l.loop-i.invariant.3,
       rw add-one (⊎_elim
           (λ w. subst (λ (n : ℕ). Gathered s.args.table.now s.args.from (suc l.loop-i.i) s.args.first s.args.span (take n (set block l.loop-i.n x))) (sym (w.1 ∙ add-one l.loop-i.n)) more)
           (λ w. subst (λ (n : ℕ). Gathered s.args.table.now s.args.from (suc l.loop-i.i) s.args.first s.args.span (take n (set block l.loop-i.n x))) (sym w.1) (same (b.between.ensures w.0.left)))
-          c.if-between.branch),
+          c.if-between.branch-raw),
     )
 
 returns : tie.Need-returns invariant-loop decreases-loop

@@ -36,7 +36,7 @@ returns c =
     let l = loop_of k in
     let s = start_of l in (
       λ e. never e refl,
-      λ e. overdrawn-here s.args.places.now s.args.block.now l.loop-j.j k.before.large.result (omega arith) k.before.large.ensures.0 s.args.lefts-1.now l.loop-j.lefts-1 l.loop-j.inv.2
+      λ e. overdrawn-here s.args.places.now s.args.block.now l.loop-j.j k.before.large.result (omega arith) k.before.large.ensures.0 s.args.lefts-1.now l.loop-j.lefts-1 l.loop-j.invariant.2
           s.args.n (omega arith) (omega arith) (k.lower.ensures.1 (not-true _ c.if-not-lower.true)),
     )
 
@@ -46,8 +46,8 @@ loop-again c =
     let l = loop_of k in
     let s = start_of l in (
       omega arith,
-      k.lower.auto.1.1.0 ∙ l.loop-j.inv.1,
-      rw add-one (taken_more s.args.places.now s.args.block.now l.loop-j.j k.before.large.result (omega arith) k.before.large.ensures.0 s.args.lefts-1.now l.loop-j.lefts-1 l.loop-j.inv.2
+      k.lower.auto.1.1.0 ∙ l.loop-j.invariant.1,
+      rw add-one (taken_more s.args.places.now s.args.block.now l.loop-j.j k.before.large.result (omega arith) k.before.large.ensures.0 s.args.lefts-1.now l.loop-j.lefts-1 l.loop-j.invariant.2
           k.lower.new.1.1.0 (k.lower.ensures.0 (not-false _ c.if-not-lower.false))),
     )
 

@@ -40,7 +40,7 @@ gather-requires c κs =
     let b = c.before in
     let l = b.before.before in
     let s = start_of l.before in
-    let (words, (right, more)) = s.pre in
+    let (words, (right, more)) = s.requires in
     let (later, (most, few)) = b.block_end-to.ensures in
     (omega arith, (λ j k. group-natural s.args.count s.args.table.now words right j (omega arith), (omega arith, (omega (arith, l.loop-i.invariant.2), omega (arith, span_fits l.before, l.before.natural_at-last.ensures.1)))))
 
@@ -48,8 +48,8 @@ lower_block-requires : tie.Need-lower_block-requires invariant-loop decreases-lo
 lower_block-requires c κs =
     let g = c.before.before.before in
     let l = loop_of g in
-    let (words, (right, (rises, (least, (wide, (index, (long, are))))))) = (start_of l.before).pre in
-    (g.gather-n.ensures.0, (rises, (wide, (index, omega (arith, l.loop-i.inv.1)))))
+    let (words, (right, (rises, (least, (wide, (index, (long, are))))))) = (start_of l.before).requires in
+    (g.gather-n.ensures.0, (rises, (wide, (index, omega (arith, l.loop-i.invariant.1)))))
 
 -- the block, and where it ends
 abbrev to_of : tie.After-gather-n invariant-loop decreases-loop → ℕ
@@ -65,11 +65,11 @@ returns c =
     let l = loop_of g in
     let v = l.before in
     let s = start_of v in
-    let (words, (right, more)) = s.pre in
+    let (words, (right, more)) = s.requires in
     let (later, (most, few)) = g.before.before.block_end-to.ensures in (
       λ e. never e refl,
       λ e. overdrawn-wrong s.args.table.now s.args.places.now (rising s) (some s) v.before.natural_at-first.result (v.natural_at-last.result - v.before.natural_at-first.result)
-          v.before.natural_at-first.ensures.0 (omega (arith, span_fits v, v.natural_at-last.ensures.0)) l.loop-i.i (to_of g) (block_of g) l.loop-i.lefts-1 g.gather-n.ensures.1 l.loop-i.inv.3
+          v.before.natural_at-first.ensures.0 (omega (arith, span_fits v, v.natural_at-last.ensures.0)) l.loop-i.i (to_of g) (block_of g) l.loop-i.lefts-1 g.gather-n.ensures.1 l.loop-i.invariant.3
           s.args.count most words (k.lower_block.ensures.1 (not-true _ c.if-not-lower_block.true)),
     )
 
@@ -82,10 +82,10 @@ loop-again c =
     let s = start_of v in
     let (later, (most, few)) = g.before.before.block_end-to.ensures in (
       most,
-      k.lower_block.auto.1.1.1.1.0 ∙ l.loop-i.inv.1,
-      g.gather-n.kept.1.1.1.1.1.0 ∙ l.loop-i.inv.2,
+      k.lower_block.auto.1.1.1.1.0 ∙ l.loop-i.invariant.1,
+      g.gather-n.kept.1.1.1.1.1.0 ∙ l.loop-i.invariant.2,
       lefts-block s.args.table.now s.args.places.now (rising s) (some s) v.before.natural_at-first.result (v.natural_at-last.result - v.before.natural_at-first.result)
-          v.before.natural_at-first.ensures.0 (omega (arith, span_fits v, v.natural_at-last.ensures.0)) l.loop-i.i (to_of g) (block_of g) l.loop-i.lefts-1 g.gather-n.ensures.1 l.loop-i.inv.3
+          v.before.natural_at-first.ensures.0 (omega (arith, span_fits v, v.natural_at-last.ensures.0)) l.loop-i.i (to_of g) (block_of g) l.loop-i.lefts-1 g.gather-n.ensures.1 l.loop-i.invariant.3
           k.lower_block.new.1.1.1.1.0 (k.lower_block.ensures.0 (not-false _ c.if-not-lower_block.false)),
     )
 

@@ -66,7 +66,7 @@ word_at-requires : tie.Need-word_at-requires invariant-loop decreases-loop
 word_at-requires c κs =
     let l = loop_of c.before in
     let s = start_of c.before in
-    (omega (arith, s.pre.0), numbers s l.loop-i.i (omega arith))
+    (omega (arith, s.requires.0), numbers s l.loop-i.i (omega arith))
 
 homed : (c : tie.After-home_of-home invariant-loop decreases-loop) → c.home_of-home.result ≡ home_of (length (loop_of c).loop-i.slots-1) (word_at (start_of c).args.table.now (loop_of c).loop-i.i)
 homed c = c.home_of-home.ensures.0 ∙ ap (slot_of (length (loop_of c).loop-i.slots-1)) c.before.hash_at.ensures.0
@@ -76,7 +76,7 @@ store-requires c κs =
     let h = c.before.before in
     let l = loop_of h in
     let s = start_of h in
-    (h.home_of-home.ensures.1, omega (arith, l.loop-i.inv.2.left, l.loop-i.inv.1, size s, (cleared s).more))
+    (h.home_of-home.ensures.1, omega (arith, l.loop-i.invariant.2.left, l.loop-i.invariant.1, size s, (cleared s).more))
 
 stored : (c : tie.After-store invariant-loop decreases-loop) → c.store.result ≡ true → let h = home_at c in let w = word_at (start_of h).args.table.now (loop_of h).loop-i.i in
     Stored whole w (home_of (length (loop_of h).loop-i.slots-1) w) w (loop_of h).loop-i.slots-1 c.store.new.0
@@ -92,7 +92,7 @@ returns c =
     let s = start_of (home_at t) in
     let (word, member) = t.before.word_at.ensures in
     let held = subst (Holds whole l.loop-i.slots-1) word (t.store.ensures.1 (not-true _ c.if-not-store.true)) in
-    let twice = held-twice l.loop-i.inv.2 (λ j h. numbers s j (omega arith)) member held in
+    let twice = held-twice l.loop-i.invariant.2 (λ j h. numbers s j (omega arith)) member held in
     sym (each-false (rank_fits true 1 s.args.table.now) s.args.count l.loop-i.i (omega arith) (lt-leb _ _ twice))
 
 loop-again : tie.Need-loop-i-preserved invariant-loop decreases-loop
@@ -104,8 +104,8 @@ loop-again c =
     let new = stored t (not-false _ c.if-not-store.false) in (
       omega arith,
       search rules,
-      filled_more l.loop-i.inv.2 new (not-empty s.args.table.now l.loop-i.i (numbers s l.loop-i.i (omega arith))) refl member,
-      below_more _ _ l.loop-i.inv.3 (stored-first l.loop-i.inv.2 new (λ x y z. refl) refl),
+      filled_more l.loop-i.invariant.2 new (not-empty s.args.table.now l.loop-i.i (numbers s l.loop-i.i (omega arith))) refl member,
+      below_more _ _ l.loop-i.invariant.3 (stored-first l.loop-i.invariant.2 new (λ x y z. refl) refl),
     )
 
 returns-2 : tie.Need-returns invariant-loop decreases-loop

@@ -30,14 +30,14 @@ module _ (c : tie.Else-slots-q invariant-loop decreases-loop) {y : ℕ} (e : nex
   on =
       let l = loop_of c in
       let s = l.before in
-      subst (Passed whole s.args.key s.args.home s.args.slots.now) e (passed-next l.loop-q.inv c.before.before.loop-q-test.true c.if-slots-q.false s.pre.1)
+      subst (Passed whole s.args.key s.args.home s.args.slots.now) e (passed-next l.loop-q.invariant c.before.before.loop-q-test.true c.if-slots-q.false s.requires.1)
 
   less : let l = loop_of c in let s = l.before in length s.args.slots.now - steps s.args.slots.now s.args.home y < length s.args.slots.now - steps s.args.slots.now s.args.home l.loop-q.q
   less =
       let l = loop_of c in
       let s = l.before in
       subst (λ (x : ℕ). length s.args.slots.now - steps s.args.slots.now s.args.home x < length s.args.slots.now - steps s.args.slots.now s.args.home l.loop-q.q) e
-      (steps-less l.loop-q.inv.reached c.before.before.loop-q-test.true s.pre.1)
+      (steps-less l.loop-q.invariant.reached c.before.before.loop-q-test.true s.requires.1)
 
 round : (c : tie.Then-q-slots invariant-loop decreases-loop) → let l = loop_of c.before in next (length l.before.args.slots.now) l.loop-q.q ≡ 0
 round c = next-round _ _ (omega arith)

@@ -36,8 +36,8 @@ returns c = λ q. go q (ltb q 4096) refl
     l = c.before
 
     go : (q : ℕ) (b : Bool) → ltb q 4096 ≡ b → get_or l.loop-i.marks q 0 ≡ 0
-    go q true e = l.loop-i.inv.2 q (omega (arith, ltb-true q 4096 e))
-    go q false e = get_or-eq_default l.loop-i.marks 0 (omega (arith, ltb-false q 4096 e, l.loop-i.inv.1))
+    go q true e = l.loop-i.invariant.2 q (omega (arith, ltb-true q 4096 e))
+    go q false e = get_or-eq_default l.loop-i.marks 0 (omega (arith, ltb-false q 4096 e, l.loop-i.invariant.1))
 
 pub clear_marks_spec : {M : Type 1} → statement M
 clear_marks_spec =

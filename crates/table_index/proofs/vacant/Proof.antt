@@ -29,7 +29,7 @@ used : (c : tie.Else-wide-eq0 invariant-loop decreases-loop) → let l = c.befor
 used c z = c.if-wide-eq0.false (c.before.wide.ensures ∙ z)
 
 some : (c : tie.Else-wide-eq0 invariant-loop decreases-loop) → let s = start_of c.before.before.before in 0 < room s.args.slots.now
-some c = let (few, (low, free)) = (start_of c.before.before.before).pre in free
+some c = let (few, (low, free)) = (start_of c.before.before.before).requires in free
 
 home-requires : tie.Need-home-q-requires invariant-loop decreases-loop
 home-requires c κs =

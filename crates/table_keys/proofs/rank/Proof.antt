@@ -37,7 +37,7 @@ loop-again c =
           ∙ sym (alike-hit s.args.whole (group_at s.args.i ws) (member_at s.args.i ws) l.loop-j.j ws (sym k.same_key.ensures ∙ w.0.taken)))
           (λ w. w.1 ∙ l.loop-j.invariant.1
           ∙ sym (alike-miss s.args.whole (group_at s.args.i ws) (member_at s.args.i ws) l.loop-j.j ws (sym k.same_key.ensures ∙ w.0.left)))
-          c.if-same_key.branch),
+          c.if-same_key.branch-raw),
     )
 
 returns : tie.Need-returns invariant-loop decreases-loop

@@ -29,7 +29,7 @@ returns-3 c =
     let d = c.before.before in
     let k = d.before in
     let s = start_of k in
-    let (rising, (wide, (index, (long, low)))) = s.pre in (
+    let (rising, (wide, (index, (long, low)))) = s.requires in (
       λ e. lowered-here s.args.places.now s.args.group k.seek-x.result s.args.lefts.now k.seek-x.ensures d.if-x-eq0.false rising long c.if-left-eq0.false,
       λ e. never refl e,
     )

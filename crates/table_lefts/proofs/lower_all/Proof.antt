@@ -32,7 +32,7 @@ loop_of c = c.before.before.before.before
 natural : (c : tie.In-loop-i invariant-loop decreases-loop) → let s = start_of c.before in Natural (group_at c.before.loop-i.i s.args.table.now)
 natural c =
     let s = start_of c.before in
-    let (words, (right, more)) = s.pre in
+    let (words, (right, more)) = s.requires in
     group-natural s.args.count s.args.table.now words right c.before.loop-i.i (omega arith)
 
 loop-holds : tie.Need-loop-i-init invariant-loop decreases-loop
@@ -59,12 +59,12 @@ returns c =
     let k = c.before.before.before in
     let l = loop_of k in
     let s = start_of l in
-    let (words, (right, (rising, more))) = s.pre in (
+    let (words, (right, (rising, more))) = s.requires in (
       λ e. never e refl,
       λ e tallied.
           exhausted-wrong s.args.table.now s.args.places.now rising l.loop-i.i (omega arith) (natural k.before.before.before) l.loop-i.lefts-1 s.args.count (omega arith) words
           (subst (λ (g : ℕ). Exhausted s.args.places.now g l.loop-i.lefts-1) (handed k) (k.lower.ensures.1 (not-true _ c.if-not-lower.true)))
-          l.loop-i.inv.2 tallied,
+          l.loop-i.invariant.2 tallied,
     )
 
 loop-again : tie.Need-loop-i-preserved invariant-loop decreases-loop
@@ -72,14 +72,14 @@ loop-again c =
     let k = c.before.before.before in
     let l = loop_of k in
     let s = start_of l in
-    let (words, (right, (rising, more))) = s.pre in
+    let (words, (right, (rising, more))) = s.requires in
     let places = s.args.places.now in
     let after = k.lower.new.1.1.0 in (
       omega arith,
-      k.lower.auto.1.1.0 ∙ l.loop-i.inv.1,
+      k.lower.auto.1.1.0 ∙ l.loop-i.invariant.1,
       rw add-one
           (lefts-next s.args.table.now places rising l.loop-i.i (omega arith) (natural k.before.before.before) l.loop-i.lefts-1 after
-          (subst (λ (g : ℕ). Lowered places g l.loop-i.lefts-1 after) (handed k) (k.lower.ensures.0 (not-false _ c.if-not-lower.false))) l.loop-i.inv.2),
+          (subst (λ (g : ℕ). Lowered places g l.loop-i.lefts-1 after) (handed k) (k.lower.ensures.0 (not-false _ c.if-not-lower.false))) l.loop-i.invariant.2),
     )
 
 returns-2 : tie.Need-returns invariant-loop decreases-loop

@@ -31,10 +31,10 @@ loop-again c = ⊎_elim
     (λ w. (
       omega arith,
       omega (arith, w.1),
-      λ e. below_more _ _ (l.loop-p.inv.2 (sym w.1 ∙ e)) w.0.left,
-      λ h. let s = l.loop-p.inv.3 (λ z. h (w.1 ∙ z)) in record { place = s.place; within = omega (arith, s.within); some = s.some },
+      λ e. below_more _ _ (l.loop-p.invariant.2 (sym w.1 ∙ e)) w.0.left,
+      λ h. let s = l.loop-p.invariant.3 (λ z. h (w.1 ∙ z)) in record { place = s.place; within = omega (arith, s.within); some = s.some },
     ))
-    c.if-lefts-p-ne0.branch
+    c.if-lefts-p-ne0.branch-raw
   where
     l : tie.At-loop-p invariant-loop decreases-loop
     l = c.before.before.before

@@ -26,7 +26,7 @@ fits : (c : tie.In-Used-2) → let s = start_of (called_of c) in 2 * c.read-1.gi
 fits c =
     let k = called_of c in
     let s = start_of k in
-    let (words, (right, enough)) = s.pre in
+    let (words, (right, enough)) = s.requires in
     used-fits s.args.limit s.args.table.now s.args.count words right s.args.groups.now (long s) k.read_places-read.ensures c.read-1.given.1
 
 exact-requires : tie.Need-exact-requires
@@ -34,7 +34,7 @@ exact-requires c κs =
     let r = c.before.before in
     let k = called_of r in
     let s = start_of k in
-    let (words, (right, enough)) = s.pre in
+    let (words, (right, enough)) = s.requires in
     (words, (right, used-rising s.args.limit s.args.table.now s.args.count words right s.args.groups.now (long s) k.read_places-read.ensures r.read-1.given.1))
 
 returns : tie.Need-returns-in-Used
@@ -42,14 +42,14 @@ returns c =
     let r = c.before.before.before in
     let k = called_of r in
     let s = start_of k in
-    let (words, (right, enough)) = s.pre in
+    let (words, (right, enough)) = s.requires in
     exact-agree s.args.limit s.args.table.now s.args.count words right s.args.groups.now (long s) k.read_places-read.ensures r.read-1.given.1 c.exact.result c.exact.ensures
 
 returns-2 : tie.Need-returns-in-Wrong
 returns-2 c =
     let k = c.before.before in
     let s = start_of k in
-    let (words, (right, enough)) = s.pre in
+    let (words, (right, enough)) = s.requires in
     none-agree s.args.limit s.args.table.now s.args.count words right s.args.groups.now (long s) k.read_places-read.ensures c.enum_told-1.given.1
 
 pub list_agrees_spec : {M : Type 1} → statement M

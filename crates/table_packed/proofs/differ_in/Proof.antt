@@ -90,7 +90,7 @@ returns c =
     let l = loop_of t in
     let s = start_of t in
     let held = t.store.ensures.1 (not-true _ c.if-not-store.true) in
-    let twice = held-twice l.loop-i.inv.2 (λ j h. numbers s j (omega arith)) (hashed_at t).hash_at.ensures.1 held in
+    let twice = held-twice l.loop-i.invariant.2 (λ j h. numbers s j (omega arith)) (hashed_at t).hash_at.ensures.1 held in
     sym (each-false (rank_fits true 1 s.args.table.now) s.args.count l.loop-i.i (omega arith) (lt-leb _ _ twice))
 
 loop-again : tie.Need-loop-i-preserved invariant-loop decreases-loop
@@ -98,15 +98,15 @@ loop-again c =
     let t = c.before.before.before in
     let l = loop_of t in
     let s = start_of t in
-    let (words, (right, (clear, few))) = s.pre in
+    let (words, (right, (clear, few))) = s.requires in
     let low : l.loop-i.i < 65535 = omega arith in
     let tag = tag_of (hash_of (word_at s.args.table.now l.loop-i.i)) in
     let new = t.store.ensures.0 (not-false _ c.if-not-store.false) in (
       omega arith,
       search rules,
-      filled_more l.loop-i.inv.2 new (word_some l.loop-i.i low tag) (word-pair l.loop-i.i low tag s.args.table.now) (hashed_at t).hash_at.ensures.1,
-      placed-more low l.loop-i.inv.3 new,
-      below_more _ _ l.loop-i.inv.4 (stored-first l.loop-i.inv.2 new (λ x y z. refl) refl),
+      filled_more l.loop-i.invariant.2 new (word_some l.loop-i.i low tag) (word-pair l.loop-i.i low tag s.args.table.now) (hashed_at t).hash_at.ensures.1,
+      placed-more low l.loop-i.invariant.3 new,
+      below_more _ _ l.loop-i.invariant.4 (stored-first l.loop-i.invariant.2 new (λ x y z. refl) refl),
     )
 
 returns-2 : tie.Need-returns invariant-loop decreases-loop

@@ -73,16 +73,16 @@ module _ (c : tie.Else-is_pair invariant-loop decreases-loop) {y : ℕ} (e : nex
   on : let s = start_of (used_of c) in sought s.args.table.now s.args.i s.args.slots.now y
   on =
       let s = start_of (used_of c) in
-      let (words, (few, (numbers, (hashed, (placed, (size, some)))))) = s.pre in
+      let (words, (few, (numbers, (hashed, (placed, (size, some)))))) = s.requires in
       subst (sought s.args.table.now s.args.i s.args.slots.now) e
-      (passed-next (loop_of (used_of c)).loop-q.inv (used_of c).loop-q-test.true (c.before.is_pair.ensures.1 c.if-is_pair.false) some)
+      (passed-next (loop_of (used_of c)).loop-q.invariant (used_of c).loop-q-test.true (c.before.is_pair.ensures.1 c.if-is_pair.false) some)
 
   less : let s = start_of (used_of c) in left s.args.table.now s.args.i s.args.slots.now y < left s.args.table.now s.args.i s.args.slots.now (loop_of (used_of c)).loop-q.q
   less =
       let s = start_of (used_of c) in
-      let (words, (few, (numbers, (hashed, (placed, (size, some)))))) = s.pre in
+      let (words, (few, (numbers, (hashed, (placed, (size, some)))))) = s.requires in
       subst (λ (x : ℕ). left s.args.table.now s.args.i s.args.slots.now x < left s.args.table.now s.args.i s.args.slots.now (loop_of (used_of c)).loop-q.q) e
-      (steps-less (loop_of (used_of c)).loop-q.inv.reached (used_of c).loop-q-test.true some)
+      (steps-less (loop_of (used_of c)).loop-q.invariant.reached (used_of c).loop-q-test.true some)
 
 round : (c : tie.Then-q-slots invariant-loop decreases-loop) → let t = used_of c.before in next (length (start_of t).args.slots.now) (loop_of t).loop-q.q ≡ 0
 round c = next-round _ _ (omega arith)

@@ -44,7 +44,7 @@ said : (c : tie.After-find_group-found) → let s = start_of c in Said (lent s) 
 said c = rw (to_z-of_z (start_of c).ranges.group) at c.find_group-found.ensures
 
 number : (c : tie.After-find_group-found) → let s = start_of c in c.find_group-found.result.number ≡ size s.args.group (lent s)
-number c = let s = start_of c in number_size s.pre.1 s.args.group (some (test_of c)) c.find_group-found.result (said c)
+number c = let s = start_of c in number_size s.requires.1 s.args.group (some (test_of c)) c.find_group-found.result (said c)
 
 abbrev find_of : tie.After-held → tie.After-find_group-found
 find_of c = c.before.before
@@ -58,7 +58,7 @@ find_group-requires c κs =
     ((places s.requires.1, (_, listed s.requires.1)), rw (to_z-of_z s.ranges.group) (some c.before))
 
 held-requires : tie.Need-held-requires
-held-requires c κs = let s = start_of c.before in (rw (to_z-of_z s.fits.group) (number c.before), pairs-fit s.pre.1)
+held-requires c κs = let s = start_of c.before in (rw (to_z-of_z s.fits.group) (number c.before), pairs-fit s.requires.1)
 
 returns : tie.Need-returns-then-not-numbers_fit
 unfolding change_of words_after count_after
@@ -110,7 +110,7 @@ raise-requires c κs =
     let k = last_of t in
     let s = start_of k in
     let found = k.find_group-found.result in
-    subst (Raisable (lent s) s.args.groups-1.now found) (sym (to_z-of_z s.fits.group)) (raise-ready s.pre.1 s.args.group (some (test_of k)) found (said k) (room t))
+    subst (Raisable (lent s) s.args.groups-1.now found) (sym (to_z-of_z s.fits.group)) (raise-ready s.requires.1 s.args.group (some (test_of k)) found (said k) (room t))
 
 returns-5 : tie.Need-returns
 unfolding change_of words_after count_after add

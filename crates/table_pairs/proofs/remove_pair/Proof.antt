@@ -72,7 +72,7 @@ unfolding change_of words_after count_after size
 returns-2 c =
     let k = c.before in
     let s = start_of k in
-    let b = s.pre.1.1 in
+    let b = s.requires.1.1 in
     let n = number_size b s.args.group (one (test_of k)) k.find_group-found.result (said k) in
     let f = group-none s.args.group s.args.member s.args.count s.args.table-1.now (pairs-fit b) (omega (arith, n, c.if-number-eq0.true)) in
     let e = removed-absent s.args.group s.args.member (lent s) (fit (test_of k)) f in
@@ -111,7 +111,7 @@ lower-requires : tie.Need-lower-requires
 lower-requires c κs =
     let k = last_of c.before in
     let s = start_of k in
-    let b = s.pre.1.1 in
+    let b = s.requires.1.1 in
     let t = (there_of c.before).before.before.before.before in
     ((_, (places b, (_, said k (places b) _ (listed b)))), (omega (arith, t.if-number-eq0.left), omega (arith, number_small b s.args.group (one (test_of k)) k.find_group-found.result (said k), b.small)))
 

@@ -37,11 +37,11 @@ loop-again c =
     let t = tested c.before in
     let h : s.args.from + l.loop-j.j < length s.args.list.now = omega arith in (
       omega arith,
-      ⊎_elim (λ w. omega arith) (λ w. omega arith) c.if-not-same_number.branch,
+      ⊎_elim (λ w. omega arith) (λ w. omega arith) c.if-not-same_number.branch-raw,
       rw add-one (⊎_elim
           (λ w. others-more _ _ _ h (sym t ∙ not-true _ w.0.taken) (w.1 ∙ add-one l.loop-j.others))
-          (λ w. others_same _ _ _ h (sym t ∙ not-false _ w.0.left) w.1 l.loop-j.inv.2)
-          c.if-not-same_number.branch),
+          (λ w. others_same _ _ _ h (sym t ∙ not-false _ w.0.left) w.1 l.loop-j.invariant.2)
+          c.if-not-same_number.branch-raw),
     )
 
 returns : tie.Need-returns invariant-loop decreases-loop

@@ -53,7 +53,7 @@ returns : tie.Need-returns-then-not-place_fits invariant-loop decreases-loop
 returns c =
     let k = c.before in
     let l = loop_of k in
-    sym (read-wrong _ _ _ _ _ (stood k) (sym (tested k) ∙ not-true _ c.if-not-place_fits.true)) ∙ l.loop-limit.inv.1
+    sym (read-wrong _ _ _ _ _ (stood k) (sym (tested k) ∙ not-true _ c.if-not-place_fits.true)) ∙ l.loop-limit.invariant.1
 
 within : (c : tie.Else-not-place_fits invariant-loop decreases-loop) → let l = loop_of c.before in 2 * l.loop-limit.k + 1 < length l.before.args.list.now
 within c = there c.before.before.before.before
@@ -72,7 +72,7 @@ loop-again c =
       subst (λ (T : Type 0). T)
           (λ i. read_places s.args.limit (sym c.before.natural_at-last.ensures.0 i) (l.loop-limit.left - sym c.natural_at.ensures.0 i) (sym z i) (drop (2 * sym z i) s.args.list.now) ≡
           read_places s.args.limit 0 s.args.count 0 s.args.list.now)
-          (sym (read_next _ _ _ _ _ (stood k) (sym (tested k) ∙ not-false _ e.if-not-place_fits.false)) ∙ l.loop-limit.inv.1),
+          (sym (read_next _ _ _ _ _ (stood k) (sym (tested k) ∙ not-false _ e.if-not-place_fits.false)) ∙ l.loop-limit.invariant.1),
     )
 
 returns-2 : tie.Need-returns invariant-loop decreases-loop

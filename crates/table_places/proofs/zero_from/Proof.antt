@@ -34,7 +34,7 @@ tested c =
     let l = loop_of c in
     let s = start_of l in
     let e = same-cells {y = pos 0} c.same_number.ensures c.before.same_number-arg-1.given (omega arith) refl refl in
-    l.loop-i.inv.1 ∙ zero-at l.loop-i.i s.args.list.now (omega arith) ∙ ap (λ (t : Bool). t && all_zero (drop (suc l.loop-i.i) s.args.list.now)) (sym e)
+    l.loop-i.invariant.1 ∙ zero-at l.loop-i.i s.args.list.now (omega arith) ∙ ap (λ (t : Bool). t && all_zero (drop (suc l.loop-i.i) s.args.list.now)) (sym e)
 
 returns : tie.Need-returns-then-not-same_number invariant-loop decreases-loop
 returns c =

@@ -33,11 +33,11 @@ loop-again c =
     let l = k.loop-j in
     let t = c.before.pair_is.ensures in (
       omega arith,
-      ⊎_elim (λ w. let q = w.1 in omega arith) (λ w. let q = w.1 in omega arith) c.if-pair_is.branch,
+      ⊎_elim (λ w. let q = w.1 in omega arith) (λ w. let q = w.1 in omega arith) c.if-pair_is.branch-raw,
       rw add-one (⊎_elim
           (λ w. hits_more _ _ _ l.j _ (sym t ∙ w.0.taken) (w.1 ∙ add-one l.hits))
-          (λ w. hits-same _ _ _ l.j _ (sym t ∙ w.0.left) w.1 l.inv.2)
-          c.if-pair_is.branch),
+          (λ w. hits-same _ _ _ l.j _ (sym t ∙ w.0.left) w.1 l.invariant.2)
+          c.if-pair_is.branch-raw),
     )
 
 returns : tie.Need-returns invariant-loop decreases-loop

@@ -40,10 +40,10 @@ returns c =
     let l = k.loop-i in
     let n = k.before.before.pairs_in-n in
     answer s.fits.group s.fits.member s.args.count s.args.table.now n.result refl n.ensures
-    (find-hit _ _ n.result (room l.i _ (omega arith)) l.inv.1 (sym c.before.pair_is.ensures ∙ c.if-pair_is.true) (omega arith))
+    (find-hit _ _ n.result (room l.i _ (omega arith)) l.invariant.1 (sym c.before.pair_is.ensures ∙ c.if-pair_is.true) (omega arith))
 
 loop-again : tie.Need-loop-i-preserved invariant-loop decreases-loop
-loop-again c = (omega arith, rw add-one (find-fresh _ _ (room _ _ (omega arith)) (loop_of c.before).loop-i.inv.1 (sym c.before.pair_is.ensures ∙ c.if-pair_is.false)))
+loop-again c = (omega arith, rw add-one (find-fresh _ _ (room _ _ (omega arith)) (loop_of c.before).loop-i.invariant.1 (sym c.before.pair_is.ensures ∙ c.if-pair_is.false)))
 
 returns-2 : tie.Need-returns invariant-loop decreases-loop
 unfolding placed

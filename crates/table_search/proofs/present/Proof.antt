@@ -55,7 +55,7 @@ loop-again c =
     let k = loop_of c.before in
     let i = k.loop-i.i in (
       omega arith,
-      sym (rw (whole i (omega arith)) at (found_before _ _ (i - 32) 32 _ (omega arith) (sym c.before.block_holds.ensures ∙ c.if-block_holds.false))) ∙ k.loop-i.inv.1,
+      sym (rw (whole i (omega arith)) at (found_before _ _ (i - 32) 32 _ (omega arith) (sym c.before.block_holds.ensures ∙ c.if-block_holds.false))) ∙ k.loop-i.invariant.1,
     )
 
 returns-2 : tie.Need-returns-in-At invariant-loop decreases-loop

@@ -28,7 +28,7 @@ absent c = rw (to_z-of_z c.before.ranges.group, to_z-of_z c.before.ranges.member
 loop-again : tie.Need-loop-i-preserved invariant-loop decreases-loop
 loop-again c =
     let k = loop_of c.before in
-    (omega arith, still-none _ _ _ _ _ (omega (arith, k.before.pre)) k.loop-i.inv.1 (sym c.before.block_holds.ensures ∙ c.if-block_holds.false))
+    (omega arith, still-none _ _ _ _ _ (omega (arith, k.before.requires)) k.loop-i.invariant.1 (sym c.before.block_holds.ensures ∙ c.if-block_holds.false))
 
 pub without_spec : {M : Type 1} → statement M
 without_spec =

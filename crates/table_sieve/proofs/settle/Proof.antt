@@ -58,7 +58,7 @@ word_at-requires : tie.Need-word_at-requires invariant-loop decreases-loop
 word_at-requires c κs =
     let m = c.before.before.before in
     let s = start_of m in
-    (omega (arith, s.pre.0), numbers s (loop_of m).loop-i.i (omega arith))
+    (omega (arith, s.requires.0), numbers s (loop_of m).loop-i.i (omega arith))
 
 abbrev key_of : tie.After-store invariant-loop decreases-loop → tie.After-word_at invariant-loop decreases-loop
 key_of k = k.before.before
@@ -69,7 +69,7 @@ marked_of k = (key_of k).before.before.before.before
 store-requires : tie.Need-store-requires invariant-loop decreases-loop
 store-requires c κs =
     let l = loop_of c.before.before.before.before.before in
-    (omega (arith, c.home_of.ensures.1, l.loop-i.inv.2), omega (arith, l.loop-i.inv.3.left, l.loop-i.inv.2))
+    (omega (arith, c.home_of.ensures.1, l.loop-i.invariant.2), omega (arith, l.loop-i.invariant.3.left, l.loop-i.invariant.2))
 
 -- a marked pair is stored
 module _ (k : tie.After-store invariant-loop decreases-loop) where
@@ -77,7 +77,7 @@ module _ (k : tie.After-store invariant-loop decreases-loop) where
   homed =
       let m = marked_of k in
       k.before.home_of.ensures.0 ∙ ap (slot_of 32768) m.before.hash_at-hash.ensures.0 ∙
-      ap (λ (size : ℕ). home_of size (word_at (start_of m).args.table.now (loop_of m).loop-i.i)) (sym (loop_of m).loop-i.inv.2)
+      ap (λ (size : ℕ). home_of size (word_at (start_of m).args.table.now (loop_of m).loop-i.i)) (sym (loop_of m).loop-i.invariant.2)
 
   stored : k.store.result ≡ true → let m = marked_of k in let w = word_at (start_of m).args.table.now (loop_of m).loop-i.i in
       Stored whole w (home_of (length (loop_of m).loop-i.slots-1) w) w (loop_of m).loop-i.slots-1 k.store.last.0
@@ -94,7 +94,7 @@ returns-2 c =
     let s = start_of m in
     let (word, member) = (key_of k).word_at.ensures in
     let held = subst (Holds whole l.loop-i.slots-1) word (k.store.ensures.1 (not-true _ c.if-not-store.true)) in
-    let twice = held-twice l.loop-i.inv.3 (λ j h. numbers s j (omega arith)) member held in
+    let twice = held-twice l.loop-i.invariant.3 (λ j h. numbers s j (omega arith)) member held in
     each-false (rank_fits true 1 s.args.table.now) s.args.count l.loop-i.i (omega arith) (lt-leb _ _ twice)
 
 -- a pair that is not marked stands nowhere before
@@ -117,22 +117,22 @@ loop-again c =
       store = w.5;
     } in
     let new = stored k (not-false _ w.7.left) in
-    let first = stored-first l.loop-i.inv.3 new (marked-same ws s.args.marks.now) (sym (tested m) ∙ w.0.taken) in
-    let filled = filled_more l.loop-i.inv.3 new (not-empty ws l.loop-i.i (numbers s l.loop-i.i (omega arith))) refl w.3.ensures.1 in (
+    let first = stored-first l.loop-i.invariant.3 new (marked-same ws s.args.marks.now) (sym (tested m) ∙ w.0.taken) in
+    let filled = filled_more l.loop-i.invariant.3 new (not-empty ws l.loop-i.i (numbers s l.loop-i.i (omega arith))) refl w.3.ensures.1 in (
       omega arith,
       omega (arith, w.9, w.1.left),
-      ap length (w.8 ∙ new.stored) ∙ length-set l.loop-i.slots-1 new.slot _ ∙ l.loop-i.inv.2,
+      ap length (w.8 ∙ new.stored) ∙ length-set l.loop-i.slots-1 new.slot _ ∙ l.loop-i.invariant.2,
       subst (λ (T : Type 0). T) (λ i. Filled whole ws mine (l.loop-i.i + 1) (sym w.9 i) (sym w.8 i)) filled,
-      below_more _ _ l.loop-i.inv.4 first,
+      below_more _ _ l.loop-i.invariant.4 first,
     ))
     (λ w. (
       omega arith,
       omega (arith, w.2),
-      ap length w.1 ∙ l.loop-i.inv.2,
-      subst (λ (T : Type 0). T) (λ i. Filled whole ws mine (l.loop-i.i + 1) (sym w.2 i) (sym w.1 i)) (filled-skip l.loop-i.inv.3 (sym (tested m) ∙ w.0.left)),
-      below_more _ _ l.loop-i.inv.4 (not-marked m w.0.left),
+      ap length w.1 ∙ l.loop-i.invariant.2,
+      subst (λ (T : Type 0). T) (λ i. Filled whole ws mine (l.loop-i.i + 1) (sym w.2 i) (sym w.1 i)) (filled-skip l.loop-i.invariant.3 (sym (tested m) ∙ w.0.left)),
+      below_more _ _ l.loop-i.invariant.4 (not-marked m w.0.left),
     ))
-    c.if-is_marked.branch
+    c.if-is_marked.branch-raw
 
 returns-3 : tie.Need-returns invariant-loop decreases-loop
 unfolding within

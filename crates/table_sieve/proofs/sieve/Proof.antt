@@ -63,11 +63,11 @@ module _ (k : tie.After-insert invariant-loop decreases-loop) where
   marked : k.insert.result ≡ true → Next k.insert.last.1.0 k.insert.last.1.1.0
   marked e =
       let marks-now = k.insert.ensures.1.0 e ∙ ap (λ (h : ℕ). set_in (loop_of k).loop-i.marks-1 (mark_of h) (bit_of h)) (hashed k) in
-      subst (λ (T : Type 0). T) (λ i. Next (sym seen-now i) (sym marks-now i)) (sieved-suspected (loop_of k).loop-i.inv.1)
+      subst (λ (T : Type 0). T) (λ i. Next (sym seen-now i) (sym marks-now i)) (sieved-suspected (loop_of k).loop-i.invariant.1)
 
   new : k.insert.result ≡ false → Next k.insert.last.1.0 k.insert.last.1.1.0 × (rank_at true (loop_of k).loop-i.i (start_of k).args.table.now ≤ 1)
   new e =
-      let done = (loop_of k).loop-i.inv.1 in
+      let done = (loop_of k).loop-i.invariant.1 in
       let clear = subst (λ (h : ℕ). Has (loop_of k).loop-i.seen-1 (cell_of h) (mask_of h) → ⊥) (hashed k) (k.insert.ensures.1.1.1 e) in
       let first = fresh done clear in
       (subst (λ (T : Type 0). T) (λ i. Next (sym seen-now i) (sym (k.insert.ensures.1.1.0 e) i)) (sieved-new done first), first)
@@ -77,8 +77,8 @@ loop-again c =
     let k = c.before.before.before.before in
     let l = loop_of k in (
       omega arith,
-      ⊎_elim (λ w. marked k w.0.taken) (λ w. (new k w.0.left).0) c.if-insert.branch,
-      ⊎_elim (λ w e. never w.1 e) (λ w e. below_more _ _ (l.loop-i.inv.2 (sym w.1 ∙ e)) (new k w.0.left).1) c.if-insert.branch,
+      ⊎_elim (λ w. marked k w.0.taken) (λ w. (new k w.0.left).0) c.if-insert.branch-raw,
+      ⊎_elim (λ w e. never w.1 e) (λ w e. below_more _ _ (l.loop-i.invariant.2 (sym w.1 ∙ e)) (new k w.0.left).1) c.if-insert.branch-raw,
     )
 
 returns : tie.Need-returns invariant-loop decreases-loop

@@ -26,7 +26,7 @@ Ends c =
 sought : (c : tie.After-probe-found) → Ends c c.probe-found.result
 sought c =
     let s = start_of c in
-    let (words, (near, (some, (hashed, more)))) = s.pre in
+    let (words, (near, (some, (hashed, more)))) = s.requires in
     subst (λ (q : ℕ). Probed s.args.whole s.args.table.now s.args.i (firsts s.args.slots.now) q c.probe-found.result)
     (c.before.bucket_of.ensures.0 ∙ ap (bucket 27904) hashed) c.probe-found.ensures
 
@@ -78,7 +78,7 @@ returns-2 : tie.Need-returns-in-Empty
 returns-2 c =
     let f = c.before in
     let s = start_of f.before.before in
-    let (words, (near, (some, more))) = s.pre in (
+    let (words, (near, (some, more))) = s.requires in (
       λ e mine keyed m g. (
         good_new keyed g near m (at-empty f),
         omega (arith, rank-counted s.args.whole s.args.table.now s.args.i, empty-count keyed g m (at-empty f)),

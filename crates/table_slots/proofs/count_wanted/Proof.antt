@@ -58,7 +58,7 @@ count_pair-requires c κs =
     let d = c.before.before.before in
     let k = d.before in
     let s = start_of k in
-    let (words, (near, (some, more))) = s.pre in
+    let (words, (near, (some, more))) = s.requires in
     (words, (near, (some, (k.before.hash-h.ensures, ((good s).slot-words, (good s).low)))))
 
 returns-3 : tie.Need-returns

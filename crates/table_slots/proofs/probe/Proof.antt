@@ -34,13 +34,13 @@ loop-holds c = (omega arith, λ s l. absurd (omega arith))
 returns : tie.Need-returns-then-f-eq0 invariant-loop decreases-loop
 returns c =
     let l = loop_of c.before in
-    record { steps = l.loop-t.t; within = omega arith; there = refl; passed = l.loop-t.inv.1; empty = sym (read c.before) ∙ c.if-f-eq0.true }
+    record { steps = l.loop-t.t; within = omega arith; there = refl; passed = l.loop-t.invariant.1; empty = sym (read c.before) ∙ c.if-f-eq0.true }
 
 -- a slot in use has a place of the table
 there : (c : tie.Else-f-eq0 invariant-loop decreases-loop) → 2 * (c.before.IsPlace-in.result - 1) + 1 < length (start_of c.before).args.table.now
 there c =
     let s = start_of c.before in
-    let (words, (slots, low)) = s.pre in
+    let (words, (slots, low)) = s.requires in
     omega (arith, c.if-f-eq0.false, read c.before, low (s.args.slot + (loop_of c.before).loop-t.t))
 
 returns-2 : tie.Need-returns-then-same_key invariant-loop decreases-loop
@@ -54,7 +54,7 @@ returns-2 c =
       steps = l.loop-t.t;
       within = omega arith;
       there = refl;
-      passed = l.loop-t.inv.1;
+      passed = l.loop-t.invariant.1;
       held = λ z. d.if-f-eq0.false (read p ∙ z);
       own = subst (λ (f : ℕ). same_at s.args.whole s.args.table.now s.args.i (f - 1) ≡ true) (read p) (sym k.same_key.ensures ∙ c.if-same_key.true);
     }
@@ -67,7 +67,7 @@ loop-again c =
     let l = loop_of p in
     let s = start_of p in (
       omega arith,
-      below_more _ _ l.loop-t.inv.1
+      below_more _ _ l.loop-t.invariant.1
           (λ z. d.if-f-eq0.false (read p ∙ z), subst (λ (f : ℕ). same_at s.args.whole s.args.table.now s.args.i (f - 1) ≡ false) (read p) (sym k.same_key.ensures ∙ c.if-same_key.false)),
     )
 

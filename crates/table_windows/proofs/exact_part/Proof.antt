@@ -28,7 +28,7 @@ lower_window-requires : tie.Need-lower_window-requires
 lower_window-requires c κs =
     let f = filled_of c in
     let s = start_of f.before in
-    let (words, (right, (rising, (some, (roomy, empty))))) = s.pre in
+    let (words, (right, (rising, (some, (roomy, empty))))) = s.requires in
     let (index, numbers) = f.fill.ensures in
     (words, (right, (rising, (some, (omega (arith, roomy.most, f.fill.kept.1.0), (index, (omega (arith, roomy.long, f.fill.kept.1.1.0), lefts-none s.args.table.now s.args.places.now f.fill.last.1.1.0 numbers)))))))
 

@@ -30,7 +30,7 @@ write_activation-requires : tie.Need-write_activation-requires
 write_activation-requires c κs =
     let v = c.before in
     let n = next_of v in
-    let p = (block_of n).before.pre.1 in
+    let p = (block_of n).before.requires.1 in
     (p.0, p.1, shown-as _ _ _ _ (block_of n).from_u32.ensures.0 n.from_u32-2.ensures.0 p.2, p.3, subst (λ (m : ℕ). m < 2147483648) (sym (encloser-is v)) p.4)
 
 returns : tie.Need-returns

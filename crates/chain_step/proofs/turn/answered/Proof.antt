@@ -16,7 +16,7 @@ start_of c = c.before.before
 asked-requires : tie.Need-asked-requires
 asked-requires c κs =
     let q = asked_of c in
-    ((start_of q).pre.0 _ q.moved-in-Table-1.given.1, (start_of q).pre.1)
+    ((start_of q).requires.0 _ q.moved-in-Table-1.given.1, (start_of q).requires.1)
 
 returns-5 : tie.Need-returns-in-Table
 returns-5 c =

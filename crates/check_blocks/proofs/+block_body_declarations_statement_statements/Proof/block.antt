@@ -89,8 +89,8 @@ module _ {M : Type 1} {𝓤 : Ura M} (𝓛 : Logic 𝓤) (mem : Memory → SProp
 
   module _ (𝓣 : Tables 𝓤 H)
       (known-opened : Triple 𝓤 (𝓣.C #opened) (triple_of 𝓛 opened.signature (opened.spec 𝓛 mem run)))
-      (known-declarations : (y : (triple_of 𝓛 declarations.signature (declarations.spec 𝓛 mem run)).Ghost) → sizes.declarations-size y.0.3.0.now y.0.3.1.0.now y.0.3.1.1.0 y.0.3.1.1.1.0 y.0.3.1.1.1.1.0 y.0.3.1.1.1.1.1.0 y.0.3.1.1.1.1.1.1.0 < sizes.block_size script#.now names#.now at next d s held left → ent 𝓤 ((triple_of 𝓛 declarations.signature (declarations.spec 𝓛 mem run)).pre y) (𝓣.C #declarations ((triple_of 𝓛 declarations.signature (declarations.spec 𝓛 mem run)).args y) ((triple_of 𝓛 declarations.signature (declarations.spec 𝓛 mem run)).post y)))
-      (known-statements : (y : (triple_of 𝓛 statements.signature (statements.spec 𝓛 mem run)).Ghost) → sizes.statements-size y.0.3.0.now y.0.3.1.0.now y.0.3.1.1.0 y.0.3.1.1.1.0 y.0.3.1.1.1.1.0 < sizes.block_size script#.now names#.now at next d s held left → ent 𝓤 ((triple_of 𝓛 statements.signature (statements.spec 𝓛 mem run)).pre y) (𝓣.C #statements ((triple_of 𝓛 statements.signature (statements.spec 𝓛 mem run)).args y) ((triple_of 𝓛 statements.signature (statements.spec 𝓛 mem run)).post y))) where
+      (known-declarations : (y : (triple_of 𝓛 declarations.signature (declarations.spec 𝓛 mem run)).Ghost) → sizes.declarations-size y.0.3.0.now y.0.3.1.0.now y.0.3.1.1.0 y.0.3.1.1.1.0 y.0.3.1.1.1.1.0 y.0.3.1.1.1.1.1.0 y.0.3.1.1.1.1.1.1.0 < sizes.block_size script#.now names#.now at next d s held left → ent 𝓤 ((triple_of 𝓛 declarations.signature (declarations.spec 𝓛 mem run)).requires y) (𝓣.C #declarations ((triple_of 𝓛 declarations.signature (declarations.spec 𝓛 mem run)).args y) ((triple_of 𝓛 declarations.signature (declarations.spec 𝓛 mem run)).post y)))
+      (known-statements : (y : (triple_of 𝓛 statements.signature (statements.spec 𝓛 mem run)).Ghost) → sizes.statements-size y.0.3.0.now y.0.3.1.0.now y.0.3.1.1.0 y.0.3.1.1.1.0 y.0.3.1.1.1.1.0 < sizes.block_size script#.now names#.now at next d s held left → ent 𝓤 ((triple_of 𝓛 statements.signature (statements.spec 𝓛 mem run)).requires y) (𝓣.C #statements ((triple_of 𝓛 statements.signature (statements.spec 𝓛 mem run)).args y) ((triple_of 𝓛 statements.signature (statements.spec 𝓛 mem run)).post y))) where
     walk : ent 𝓤 (on_entry 𝓛 f.signature (lfts ps) (shares ps) (denots 0 ps) (valss 0 ps)) (WpFn 𝓤 H 𝓣.C 𝓣.Λ mine.block-function (vals ps) Post)
     walk = via 𝓤 (⋆ 𝓛 (ins 𝓤 ps)) (arrives 𝓛 0 ps) (qed 𝓛 (ins 𝓤 ps) ∵
         begins ! 𝓣.C 𝓣.Λ mine.block-function (vals ps) Post ((tt, (tt, (record { fits = room-script.0 }, tt))), ((tt, (tt, (record { fits = room-names.0 }, tt))), (typed 𝓛 usizes at g-at, (typed 𝓛 usizes next g-next, (typed 𝓛 usizes d g-d, (typed 𝓛 usizes s g-s, (typed 𝓛 usizes held g_held, (typed 𝓛 usizes left g-left, tt)))))))) (λ β. move ! (1 ∷ 2 ∷ []) $
@@ -131,7 +131,7 @@ module _ {M : Type 1} {𝓤 : Ura M} (𝓛 : Logic 𝓤) (mem : Memory → SProp
     (known-opened : Triple 𝓤 (𝓣.C #opened) (triple_of 𝓛 opened.signature (opened.spec 𝓛 mem run))) where
   open 𝓛 use {H}
 
-  pub at_size : (z : (triple_of 𝓛 f.signature (f.spec 𝓛 mem run)).Ghost) → ((y : (triple_of 𝓛 declarations.signature (declarations.spec 𝓛 mem run)).Ghost) → sizes.declarations-size y.0.3.0.now y.0.3.1.0.now y.0.3.1.1.0 y.0.3.1.1.1.0 y.0.3.1.1.1.1.0 y.0.3.1.1.1.1.1.0 y.0.3.1.1.1.1.1.1.0 < sizes.block_size z.0.3.0.now z.0.3.1.0.now z.0.3.1.1.0 z.0.3.1.1.1.0 z.0.3.1.1.1.1.0 z.0.3.1.1.1.1.1.0 z.0.3.1.1.1.1.1.1.0 z.0.3.1.1.1.1.1.1.1.0 → ent 𝓤 ((triple_of 𝓛 declarations.signature (declarations.spec 𝓛 mem run)).pre y) (𝓣.C #declarations ((triple_of 𝓛 declarations.signature (declarations.spec 𝓛 mem run)).args y) ((triple_of 𝓛 declarations.signature (declarations.spec 𝓛 mem run)).post y))) → ((y : (triple_of 𝓛 statements.signature (statements.spec 𝓛 mem run)).Ghost) → sizes.statements-size y.0.3.0.now y.0.3.1.0.now y.0.3.1.1.0 y.0.3.1.1.1.0 y.0.3.1.1.1.1.0 < sizes.block_size z.0.3.0.now z.0.3.1.0.now z.0.3.1.1.0 z.0.3.1.1.1.0 z.0.3.1.1.1.1.0 z.0.3.1.1.1.1.1.0 z.0.3.1.1.1.1.1.1.0 z.0.3.1.1.1.1.1.1.1.0 → ent 𝓤 ((triple_of 𝓛 statements.signature (statements.spec 𝓛 mem run)).pre y) (𝓣.C #statements ((triple_of 𝓛 statements.signature (statements.spec 𝓛 mem run)).args y) ((triple_of 𝓛 statements.signature (statements.spec 𝓛 mem run)).post y))) → ent 𝓤 ((triple_of 𝓛 f.signature (f.spec 𝓛 mem run)).pre z) (WpFn 𝓤 H 𝓣.C 𝓣.Λ mine.block-function ((triple_of 𝓛 f.signature (f.spec 𝓛 mem run)).args z) ((triple_of 𝓛 f.signature (f.spec 𝓛 mem run)).post z))
+  pub at_size : (z : (triple_of 𝓛 f.signature (f.spec 𝓛 mem run)).Ghost) → ((y : (triple_of 𝓛 declarations.signature (declarations.spec 𝓛 mem run)).Ghost) → sizes.declarations-size y.0.3.0.now y.0.3.1.0.now y.0.3.1.1.0 y.0.3.1.1.1.0 y.0.3.1.1.1.1.0 y.0.3.1.1.1.1.1.0 y.0.3.1.1.1.1.1.1.0 < sizes.block_size z.0.3.0.now z.0.3.1.0.now z.0.3.1.1.0 z.0.3.1.1.1.0 z.0.3.1.1.1.1.0 z.0.3.1.1.1.1.1.0 z.0.3.1.1.1.1.1.1.0 z.0.3.1.1.1.1.1.1.1.0 → ent 𝓤 ((triple_of 𝓛 declarations.signature (declarations.spec 𝓛 mem run)).requires y) (𝓣.C #declarations ((triple_of 𝓛 declarations.signature (declarations.spec 𝓛 mem run)).args y) ((triple_of 𝓛 declarations.signature (declarations.spec 𝓛 mem run)).post y))) → ((y : (triple_of 𝓛 statements.signature (statements.spec 𝓛 mem run)).Ghost) → sizes.statements-size y.0.3.0.now y.0.3.1.0.now y.0.3.1.1.0 y.0.3.1.1.1.0 y.0.3.1.1.1.1.0 < sizes.block_size z.0.3.0.now z.0.3.1.0.now z.0.3.1.1.0 z.0.3.1.1.1.0 z.0.3.1.1.1.1.0 z.0.3.1.1.1.1.1.0 z.0.3.1.1.1.1.1.1.0 z.0.3.1.1.1.1.1.1.1.0 → ent 𝓤 ((triple_of 𝓛 statements.signature (statements.spec 𝓛 mem run)).requires y) (𝓣.C #statements ((triple_of 𝓛 statements.signature (statements.spec 𝓛 mem run)).args y) ((triple_of 𝓛 statements.signature (statements.spec 𝓛 mem run)).post y))) → ent 𝓤 ((triple_of 𝓛 f.signature (f.spec 𝓛 mem run)).requires z) (WpFn 𝓤 H 𝓣.C 𝓣.Λ mine.block-function ((triple_of 𝓛 f.signature (f.spec 𝓛 mem run)).args z) ((triple_of 𝓛 f.signature (f.spec 𝓛 mem run)).post z))
   at_size z known-declarations known-statements = let κs = z.0.0 in let qs = z.0.1 in let a = z.0.3 in let g = z.1 in
       walk_meets_at 𝓛 f.ended stayed (Goes-none_slice 𝓛 2 (0 ∷ []) tt (plain (λ _. u8)) yes, (Goes-gave_slice 𝓛 2 1 tt (plain (λ _. u32)), (Goes-none 𝓛 2 (λ _. usizes.type) yes (λ κs x f. refl), (Goes-none 𝓛 2 (λ _. usizes.type) yes (λ κs x f. refl), (Goes-none 𝓛 2 (λ _. usizes.type) yes (λ κs x f. refl), (Goes-none 𝓛 2 (λ _. usizes.type) yes (λ κs x f. refl), (Goes-none 𝓛 2 (λ _. usizes.type) yes (λ κs x f. refl), (Goes-none 𝓛 2 (λ _. usizes.type) yes (λ κs x f. refl), tt))))))))
       (f.clauses 𝓛 mem run) (WpFn 𝓤 H 𝓣.C 𝓣.Λ mine.block-function) (WpFn-mono 𝓤 H 𝓛.laws 𝓣 mine.block-function) z

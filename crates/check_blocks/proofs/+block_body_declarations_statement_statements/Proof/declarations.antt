@@ -122,7 +122,7 @@ module _ {M : Type 1} {𝓤 : Ura M} (𝓛 : Logic 𝓤) (mem : Memory → SProp
   module _ (𝓣 : Tables 𝓤 H)
       (known-declaration-here : Triple 𝓤 (𝓣.C #declaration-here) (triple_of 𝓛 declaration-here.signature (declaration-here.spec 𝓛 mem run)))
       (known-fit : Triple 𝓤 (𝓣.C #fit) (triple_of 𝓛 fit.signature (fit.spec 𝓛 mem run)))
-      (known-body : (y : (triple_of 𝓛 body.signature (body.spec 𝓛 mem run)).Ghost) → sizes.body-size y.0.3.0.now y.0.3.1.0.now y.0.3.1.1.0 y.0.3.1.1.1.0 y.0.3.1.1.1.1.0 y.0.3.1.1.1.1.1.0 < sizes.declarations-size script#.now names#.now at d s held below → ent 𝓤 ((triple_of 𝓛 body.signature (body.spec 𝓛 mem run)).pre y) (𝓣.C #body ((triple_of 𝓛 body.signature (body.spec 𝓛 mem run)).args y) ((triple_of 𝓛 body.signature (body.spec 𝓛 mem run)).post y)))
+      (known-body : (y : (triple_of 𝓛 body.signature (body.spec 𝓛 mem run)).Ghost) → sizes.body-size y.0.3.0.now y.0.3.1.0.now y.0.3.1.1.0 y.0.3.1.1.1.0 y.0.3.1.1.1.1.0 y.0.3.1.1.1.1.1.0 < sizes.declarations-size script#.now names#.now at d s held below → ent 𝓤 ((triple_of 𝓛 body.signature (body.spec 𝓛 mem run)).requires y) (𝓣.C #body ((triple_of 𝓛 body.signature (body.spec 𝓛 mem run)).args y) ((triple_of 𝓛 body.signature (body.spec 𝓛 mem run)).post y)))
       (known-onward : Triple 𝓤 (𝓣.C #onward) (triple_of 𝓛 onward.signature (onward.spec 𝓛 mem run))) where
     module _ (β : ℕ → ℕ) where
       abbrev E# : List (Ty × ℕ)
@@ -215,7 +215,7 @@ module _ {M : Type 1} {𝓤 : Ura M} (𝓛 : Logic 𝓤) (mem : Memory → SProp
     (known-onward : Triple 𝓤 (𝓣.C #onward) (triple_of 𝓛 onward.signature (onward.spec 𝓛 mem run))) where
   open 𝓛 use {H}
 
-  pub at_size : (z : (triple_of 𝓛 f.signature (f.spec 𝓛 mem run)).Ghost) → ((y : (triple_of 𝓛 body.signature (body.spec 𝓛 mem run)).Ghost) → sizes.body-size y.0.3.0.now y.0.3.1.0.now y.0.3.1.1.0 y.0.3.1.1.1.0 y.0.3.1.1.1.1.0 y.0.3.1.1.1.1.1.0 < sizes.declarations-size z.0.3.0.now z.0.3.1.0.now z.0.3.1.1.0 z.0.3.1.1.1.0 z.0.3.1.1.1.1.0 z.0.3.1.1.1.1.1.0 z.0.3.1.1.1.1.1.1.0 → ent 𝓤 ((triple_of 𝓛 body.signature (body.spec 𝓛 mem run)).pre y) (𝓣.C #body ((triple_of 𝓛 body.signature (body.spec 𝓛 mem run)).args y) ((triple_of 𝓛 body.signature (body.spec 𝓛 mem run)).post y))) → ent 𝓤 ((triple_of 𝓛 f.signature (f.spec 𝓛 mem run)).pre z) (WpFn 𝓤 H 𝓣.C 𝓣.Λ mine.declarations-function ((triple_of 𝓛 f.signature (f.spec 𝓛 mem run)).args z) ((triple_of 𝓛 f.signature (f.spec 𝓛 mem run)).post z))
+  pub at_size : (z : (triple_of 𝓛 f.signature (f.spec 𝓛 mem run)).Ghost) → ((y : (triple_of 𝓛 body.signature (body.spec 𝓛 mem run)).Ghost) → sizes.body-size y.0.3.0.now y.0.3.1.0.now y.0.3.1.1.0 y.0.3.1.1.1.0 y.0.3.1.1.1.1.0 y.0.3.1.1.1.1.1.0 < sizes.declarations-size z.0.3.0.now z.0.3.1.0.now z.0.3.1.1.0 z.0.3.1.1.1.0 z.0.3.1.1.1.1.0 z.0.3.1.1.1.1.1.0 z.0.3.1.1.1.1.1.1.0 → ent 𝓤 ((triple_of 𝓛 body.signature (body.spec 𝓛 mem run)).requires y) (𝓣.C #body ((triple_of 𝓛 body.signature (body.spec 𝓛 mem run)).args y) ((triple_of 𝓛 body.signature (body.spec 𝓛 mem run)).post y))) → ent 𝓤 ((triple_of 𝓛 f.signature (f.spec 𝓛 mem run)).requires z) (WpFn 𝓤 H 𝓣.C 𝓣.Λ mine.declarations-function ((triple_of 𝓛 f.signature (f.spec 𝓛 mem run)).args z) ((triple_of 𝓛 f.signature (f.spec 𝓛 mem run)).post z))
   at_size z known-body = let κs = z.0.0 in let qs = z.0.1 in let a = z.0.3 in let g = z.1 in
       walk_meets_at 𝓛 f.ended stayed (Goes-none_slice 𝓛 2 (0 ∷ []) tt (plain (λ _. u8)) yes, (Goes-gave_slice 𝓛 2 1 tt (plain (λ _. u32)), (Goes-none 𝓛 2 (λ _. usizes.type) yes (λ κs x f. refl), (Goes-none 𝓛 2 (λ _. usizes.type) yes (λ κs x f. refl), (Goes-none 𝓛 2 (λ _. usizes.type) yes (λ κs x f. refl), (Goes-none 𝓛 2 (λ _. usizes.type) yes (λ κs x f. refl), (Goes-none 𝓛 2 (λ _. usizes.type) yes (λ κs x f. refl), tt)))))))
       (f.clauses 𝓛 mem run) (WpFn 𝓤 H 𝓣.C 𝓣.Λ mine.declarations-function) (WpFn-mono 𝓤 H 𝓛.laws 𝓣 mine.declarations-function) z

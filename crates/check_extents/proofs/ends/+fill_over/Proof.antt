@@ -109,7 +109,7 @@ fill-loop-again t c =
       search rules,
       o.ensures.0.near,
       search rules,
-      λ x h. o.ensures.0.steps a.at l.pending x turn.loop-test.taken (l.inv.3 x h),
+      λ x h. o.ensures.0.steps a.at l.pending x turn.loop-test.taken (l.invariant.3 x h),
       o.ensures.1,
     )
 

@@ -17,13 +17,13 @@ returns-4 c =
     let e = inside_of c.before.before in
     let st = start_of e in
     let m = sym c.before.before.before.word-mark.ensures.0 ∙ c.if-mark-eq-VR.true in
-    (skipped-head st.args.script.now st.args.at e.if-script-at.left _ (passed-VR st.args.script.now st.args.at m) refl, st.pre.1)
+    (skipped-head st.args.script.now st.args.at e.if-script-at.left _ (passed-VR st.args.script.now st.args.at m) refl, st.requires.1)
 
 returns-5 : tie.Need-returns
 returns-5 c =
     let e = inside_of c.before.before.before in
     let st = start_of e in
-    (skipped-head st.args.script.now st.args.at e.if-script-at.left _ c.past.ensures refl, st.pre.1)
+    (skipped-head st.args.script.now st.args.at e.if-script-at.left _ c.past.ensures refl, st.requires.1)
 
 pub skip_spec : {M : Type 1} → statement M
 skip_spec =

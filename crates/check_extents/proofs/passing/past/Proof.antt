@@ -28,7 +28,7 @@ module _ (c : tie.After-field_count) where
       let st = start_of c in
       record {
         next-is = e;
-        more-is = sym (child-other (field_at bs at) (field_at bs (at + 2)) (field_at bs (at + 4)) (λ p. st.pre.3 (st.pre.2 ∙ p)) (λ p. st.pre.4 (st.pre.2 ∙ p)));
+        more-is = sym (child-other (field_at bs at) (field_at bs (at + 2)) (field_at bs (at + 4)) (λ p. st.requires.3 (st.requires.2 ∙ p)) (λ p. st.requires.4 (st.requires.2 ∙ p)));
         on = low;
         near = high;
         few = omega arith;
@@ -38,18 +38,18 @@ returns : tie.Need-returns-then-mark-eq-CL
 returns c =
     let f = c.before.before in
     let st = start_of f in
-    let m = sym st.pre.2 ∙ c.before.if-mark-eq-CL.true in
+    let m = sym st.requires.2 ∙ c.before.if-mark-eq-CL.true in
     let e = size-CL (field_at (bs f) (at f)) (field_at (bs f) (at f + 4)) m in
     let two = count-CL (field_at (bs f) (at f)) m in
-    let n = f.field_count.ensures.0 ∙ ap field_count st.pre.2 in
+    let n = f.field_count.ensures.0 ∙ ap field_count st.requires.2 in
     alone f _ (omega arith) (omega arith) (omega arith)
 
 returns-2 : tie.Need-returns
 returns-2 c =
     let f = c.before in
     let st = start_of f in
-    let e = size-other (field_at (bs f) (at f)) (field_at (bs f) (at f + 4)) (λ p. c.if-mark-eq-CL.false (st.pre.2 ∙ p)) in
-    let n = f.field_count.ensures.0 ∙ ap field_count st.pre.2 in
+    let e = size-other (field_at (bs f) (at f)) (field_at (bs f) (at f + 4)) (λ p. c.if-mark-eq-CL.false (st.requires.2 ∙ p)) in
+    let n = f.field_count.ensures.0 ∙ ap field_count st.requires.2 in
     alone f _ (omega arith) (omega arith) (omega arith)
 
 pub past_spec : {M : Type 1} → statement M

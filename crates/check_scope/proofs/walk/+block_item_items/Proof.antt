@@ -100,7 +100,7 @@ items-requires t c κs =
     let near = records-near _ _ _ read.word.ensures.0 marked 131076 (omega arith) in
     let d = room.before.before.word2.ensures.1 in
     let s = room.before.word3.ensures.1 in (
-      records-fall _ _ _ read.word.ensures.0 marked _ start.pre.0,
+      records-fall _ _ _ read.word.ensures.0 marked _ start.requires.0,
       (
         record { short = (ready_of start).short; room = omega arith; chained = inserted.insert.ensures.chained; noted = formals.push2.ensures.noted },
         near,

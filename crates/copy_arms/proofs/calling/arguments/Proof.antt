@@ -36,7 +36,7 @@ handed-requires c κs =
     let l = c.before in
     let s = l.before.before in (
       record { first-is = s.before.first_of-first.ensures.0; start_is = s.start_of_lem.ensures },
-      (start_of l.before).pre.1.named l.loop-i.i c.loop-i-test.true,
+      (start_of l.before).requires.1.named l.loop-i.i c.loop-i-test.true,
     )
 
 loop-again : tie.Need-loop-i-preserved invariant-loop decreases-loop

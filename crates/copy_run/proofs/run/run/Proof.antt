@@ -83,13 +83,13 @@ groups_by o =
 
 -- area, table and list keep their lengths
 area-kept : (o : tie.After-step invariant-loop decreases-loop) → length (left_by o).area-1 ≡ length (start_of (loop_at o)).args.area-1.now
-area-kept o = cc (loop_at o).loop-left.inv.1
+area-kept o = cc (loop_at o).loop-left.invariant.1
 
 table_kept : (o : tie.After-step invariant-loop decreases-loop) → length (left_by o).table-1 ≡ length (start_of (loop_at o)).args.table-1.now
-table_kept o = cc (loop_at o).loop-left.inv.2
+table_kept o = cc (loop_at o).loop-left.invariant.2
 
 list-kept : (o : tie.After-step invariant-loop decreases-loop) → length (groups_by o) ≡ length (start_of (loop_at o)).args.groups-1.now
-list-kept o = cc (loop_at o).loop-left.inv.3
+list-kept o = cc (loop_at o).loop-left.invariant.3
 
 -- the arrays as a turn finds them, and that the run has come so far
 abbrev found_by : tie.At-loop-left invariant-loop decreases-loop → Arrays
@@ -98,8 +98,8 @@ found_by l =
     arrays_of v.cells v.area-1 v.blocks v.nexts v.links v.firsts v.starts v.targets v.looked v.table-1
 
 going : (l : tie.At-loop-left invariant-loop decreases-loop)
-    → Going (start_of l).pre.0.running (start_of l).args.allowance (found_by l) l.loop-left.here l.loop-left.left
-going l = l.loop-left.invariant.0 (start_of l).pre.0.running
+    → Going (start_of l).requires.0.running (start_of l).args.allowance (found_by l) l.loop-left.here l.loop-left.left
+going l = l.loop-left.invariant.0 (start_of l).requires.0.running
 
 loop-holds : tie.Need-loop-left-init invariant-loop decreases-loop
 loop-holds c = (λ w. begun w c.before.args.allowance, refl, refl, refl, λ past b. b)
@@ -108,8 +108,8 @@ step-requires : tie.Need-step-requires invariant-loop decreases-loop
 step-requires c κs =
     let t = turn_at c in
     let l = t.before in
-    let p = (start_of l).pre in
-    (step-ready (going l) p.0.names-left t.loop-left-test.taken, list-has l.loop-left.here l.loop-left.inv.4 p.1)
+    let p = (start_of l).requires in
+    (step-ready (going l) p.0.names-left t.loop-left-test.taken, list-has l.loop-left.here l.loop-left.invariant.4 p.1)
 
 sub-left : tie.Need-overflow_sub-left invariant-loop decreases-loop
 sub-left c = (turn_of (went_of c)).loop-left-test.taken
@@ -120,7 +120,7 @@ loop-less c = omega (arith, (turn_of (went_of c)).loop-left-test.taken)
 loop-again : tie.Need-loop-left-preserved invariant-loop decreases-loop
 loop-again c =
     let o = went_of c in
-    let i = (loop_at o).loop-left.inv in (
+    let i = (loop_at o).loop-left.invariant in (
       λ w. went-as (i.0 w) (left_by o) (o.step.ensures.0 (i.0 w).running) c.before.next-1.given.1 (turn_of o).loop-left-test.taken,
       area-kept o,
       table_kept o,
@@ -148,7 +148,7 @@ same_length-3 c = list-kept (finished_of c.before)
 returns : tie.Need-returns-in-Finished invariant-loop decreases-loop
 returns c =
     let o = finished_of c.before in
-    let i = (loop_at o).loop-left.inv in (
+    let i = (loop_at o).loop-left.invariant in (
       λ w.
           let u = i.0 w in
           finished_as u (left_by o) (o.step.ensures.0 u.running) c.before.enum_told-1.given.1 (turn_of o).loop-left-test.taken c.finished.ensures,
@@ -185,7 +185,7 @@ returns-2 c =
     let h = halt_of e.before in
     let k = cause_of h in
     let o = stopped_of k in
-    let i = (loop_at o).loop-left.inv in (
+    let i = (loop_at o).loop-left.invariant in (
       λ w.
           let u = i.0 w in
           let v = stays u (left_by o) (o.step.ensures.0 u.running) k.cause-1.given.1 in
@@ -200,13 +200,13 @@ settle-requires-2 : tie.Need-settle-requires-2 invariant-loop decreases-loop
 settle-requires-2 c κs = settle-ready (going (done_of (spent_of c)).before)
 
 same_length-7 : tie.Need-shape_of-area invariant-loop decreases-loop
-same_length-7 c = (done_of (spent_of c.before.before)).before.loop-left.inv.1
+same_length-7 c = (done_of (spent_of c.before.before)).before.loop-left.invariant.1
 
 same_length-8 : tie.Need-shape_of-table invariant-loop decreases-loop
-same_length-8 c = (done_of (spent_of c.before.before)).before.loop-left.inv.2
+same_length-8 c = (done_of (spent_of c.before.before)).before.loop-left.invariant.2
 
 same_length-9 : tie.Need-shape_of-groups invariant-loop decreases-loop
-same_length-9 c = (done_of (spent_of c.before.before)).before.loop-left.inv.3
+same_length-9 c = (done_of (spent_of c.before.before)).before.loop-left.invariant.3
 
 returns-3 : tie.Need-returns invariant-loop decreases-loop
 returns-3 c =
@@ -214,8 +214,8 @@ returns-3 c =
     let h = spent_of e.before in
     let t = done_of h in
     let l = t.before.loop-left in (
-      λ w. spent (l.inv.0 w) e.settle-2.ensures.1 e.settle-2.ensures.0 c.named-2.ensures (omega (arith, t.loop-left-test.left)) h.spent-halt.ensures,
-      list-spent l.here l.inv.4 h.spent-halt.ensures c.named-2.ensures,
+      λ w. spent (l.invariant.0 w) e.settle-2.ensures.1 e.settle-2.ensures.0 c.named-2.ensures (omega (arith, t.loop-left-test.left)) h.spent-halt.ensures,
+      list-spent l.here l.invariant.4 h.spent-halt.ensures c.named-2.ensures,
     )
 
 pub run_spec : {M : Type 1} → statement M

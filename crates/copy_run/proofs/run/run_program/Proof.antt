@@ -24,12 +24,12 @@ abbrev begin_of : tie.After-run-arg-7-1 → tie.After-begin-start
 begin_of c = (first_of (own_of c)).before.before.before
 
 begin-requires : tie.Need-begin-start-requires
-begin-requires c κs = beginnable (start_at c).pre.0
+begin-requires c κs = beginnable (start_at c).requires.0
 
 run-requires : tie.Need-run-requires
 run-requires c κs =
     let o = begin_of c in
-    let p = (start_at o.before).pre in
+    let p = (start_at o.before).requires in
     (begin-ready p.0 o.begin-start.ensures refl refl refl refl refl, list-starts _ o.begin-start.ensures.registers-are p.1)
 
 same_length : tie.Need-shape_of-area

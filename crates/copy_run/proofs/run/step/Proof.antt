@@ -45,7 +45,7 @@ leave-requires : tie.Need-leave-requires
 leave-requires c κs =
     let e = c.before.before in
     let s = start_at e in
-    leave-ready s.pre.0.running (above_zero s.args.here.live e.if-live-eq0.false)
+    leave-ready s.requires.0.running (above_zero s.args.here.live e.if-live-eq0.false)
 
 returns-2 : tie.Need-returns-then-at-here
 returns-2 c =
@@ -54,32 +54,32 @@ returns-2 c =
     let ended = e.before.if-at-here.true in
     let below = above_zero s.args.here.live e.if-live-eq0.false in (
       λ w. left-on w ended below c.leave.result c.leave.ensures,
-      left-keeps s.pre.0.running ended below c.leave.result c.leave.ensures _,
+      left-keeps s.requires.0.running ended below c.leave.result c.leave.ensures _,
     )
 
 act-requires : tie.Need-act-requires
 act-requires c κs =
     let e = else_at c in
-    ready-here (entry_of e).pre.0.running e.if-at-here.left
+    ready-here (entry_of e).requires.0.running e.if-at-here.left
 
 jump-requires : tie.Need-jump-requires
 jump-requires c κs =
     let h = c.before.before in
     let a = h.before.before in
-    jump-ready (start_of a).pre.0.running (else_of a).if-at-here.left a.act.ensures h.place-in-Jump-1.given.1
+    jump-ready (start_of a).requires.0.running (else_of a).if-at-here.left a.act.ensures h.place-in-Jump-1.given.1
 
 enter-requires : tie.Need-enter-requires
 enter-requires c κs =
     let b = body_of c in
     let a = b.before.before in
-    let p = (start_of a).pre.0 in
+    let p = (start_of a).requires.0 in
     enter-ready p.running (else_of a).if-at-here.left a.act.ensures p.names-left b.body-1.given.1
 
 asked-requires : tie.Need-asked-requires
 asked-requires c κs =
     let p = asked_of c in
     let a = p.before.before in
-    (asked-there (start_of a).pre.0.running (else_of a).if-at-here.left a.act.ensures p.place-in-Table-1.given.1, (start_of a).pre.1)
+    (asked-there (start_of a).requires.0.running (else_of a).if-at-here.left a.act.ensures p.place-in-Table-1.given.1, (start_of a).requires.1)
 
 returns-3 : tie.Need-returns-in-Went
 returns-3 c =
@@ -92,7 +92,7 @@ returns-4 c =
     let h = c.before.before.before in
     let a = h.before.before in (
       λ w. jumped-on w (else_of a).if-at-here.left a.act.ensures h.place-in-Jump-1.given.1 c.jump.ensures,
-      jumped-keeps (start_of a).pre.0.running (else_of a).if-at-here.left a.act.ensures h.place-in-Jump-1.given.1 c.jump.ensures _,
+      jumped-keeps (start_of a).requires.0.running (else_of a).if-at-here.left a.act.ensures h.place-in-Jump-1.given.1 c.jump.ensures _,
     )
 
 returns-5 : tie.Need-returns-in-Enter
@@ -101,7 +101,7 @@ returns-5 c =
     let b = body_of e.before in
     let a = b.before.before in (
       λ w. entered_on w (else_of a).if-at-here.left a.act.ensures b.body-1.given.1 e.enter.ensures,
-      entered-keeps (start_of a).pre.0.running (else_of a).if-at-here.left a.act.ensures b.body-1.given.1 e.enter.ensures _,
+      entered-keeps (start_of a).requires.0.running (else_of a).if-at-here.left a.act.ensures b.body-1.given.1 e.enter.ensures _,
     )
 
 returns-6 : tie.Need-returns-in-Stop
@@ -123,7 +123,7 @@ returns-7 c =
 pub step_spec : {M : Type 1} → statement M
 step_spec =
     tie.close
-    (tie.spec returns leave-requires returns-2 (λ c. search (rules, base-within (entry_of c).pre.0.running)) act-requires (λ c. search rules)
+    (tie.spec returns leave-requires returns-2 (λ c. search (rules, base-within (entry_of c).requires.0.running)) act-requires (λ c. search rules)
     (λ c. search rules) jump-requires (λ c. search rules) enter-requires (λ c. search rules) (λ c. search rules) asked-requires (λ c κs. search rules)
     (λ c. search rules) returns-3 (λ c. search rules) returns-4 (λ c. search rules) returns-5 (λ c. search rules) returns-6 (λ c. search rules)
     (λ c. search rules) (λ c. search rules) returns-7)

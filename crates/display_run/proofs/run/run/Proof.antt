@@ -35,7 +35,7 @@ settle-requires c κs =
     let k = cause_of (halt_of c) in
     let o = step_of k in
     let l = (turn_of o).before in
-    (stopped-looking l.loop-left.inv.0 l.before.pre.0 o.step.ensures.0 k.cause-1.given.1, placed l.loop-left.inv.0 l.before.pre.0)
+    (stopped-looking l.loop-left.invariant.0 l.before.requires.0 o.step.ensures.0 k.cause-1.given.1, placed l.loop-left.invariant.0 l.before.requires.0)
 
 step-requires : tie.Need-step-requires invariant-loop decreases-loop
 step-requires c κs =
@@ -51,7 +51,7 @@ unfolding went_of
 loop-again c =
     let o = went_of c in
     let t = turn_of o in
-    let i = t.before.loop-left.inv in
+    let i = t.before.loop-left.invariant in
     let kept = o.step.kept in
     (search (rules, goes_further), (search (rules, ◌∙◌), list-went _ i.1.1 _ o.step.ensures.1 c.before.next-1.given.1))
 
@@ -60,20 +60,20 @@ same_length : tie.Need-shape_of-table-in-Stopped invariant-loop decreases-loop
 same_length c =
     let o = step_of (cause_of (halt_of c.before.before)) in
     let kept = o.step.kept in
-    let i = (turn_of o).before.loop-left.inv in
+    let i = (turn_of o).before.loop-left.invariant in
     search (rules, ◌∙◌)
 
 same_length-of-list : tie.Need-shape_of-groups-in-Stopped invariant-loop decreases-loop
 same_length-of-list c =
     let o = step_of (cause_of (halt_of c.before.before)) in
     let kept = o.step.kept in
-    let i = (turn_of o).before.loop-left.inv in
+    let i = (turn_of o).before.loop-left.invariant in
     search (rules, ◌∙◌)
 
 finishes : tie.Need-returns-in-Finished invariant-loop decreases-loop
 finishes c =
     let o = c.before.before.before.before.before in
-    let i = (turn_of o).before.loop-left.inv in
+    let i = (turn_of o).before.loop-left.invariant in
     (λ w. search (rules, finished_as), list-finished _ i.1.1 _ o.step.ensures.1 c.before.enum_told-1.given.1 c.finished.ensures)
 
 spends : tie.Need-returns invariant-loop decreases-loop
@@ -89,9 +89,9 @@ returns c =
     let o = step_of k in
     let t = turn_of o in (
       λ w.
-          stopped t.before.loop-left.inv.0 w o.step.ensures.0 k.cause-1.given.1 e.settle.ensures.1 e.settle.ensures.0 c.named.ensures
+          stopped t.before.loop-left.invariant.0 w o.step.ensures.0 k.cause-1.given.1 e.settle.ensures.1 e.settle.ensures.0 c.named.ensures
           t.loop-left-test.taken h.stopped-halt.ensures,
-      list-stopped _ t.before.loop-left.inv.1.1 _ o.step.ensures.1 k.cause-1.given.1 h.stopped-halt.ensures c.named.ensures,
+      list-stopped _ t.before.loop-left.invariant.1.1 _ o.step.ensures.1 k.cause-1.given.1 h.stopped-halt.ensures c.named.ensures,
     )
 
 pub run_spec : {M : Type 1} → statement M

@@ -81,7 +81,7 @@ put_of c = c.before.before.before
 enter-requires : (t : ℕ) → block-lts.Need-enter-requires (block-claims t) (block-at t) block.Post
 enter-requires t c κs =
     let room = room_of c in
-    enterable _ _ _ _ _ _ _ _ _ _ (start_of (read_of room)).pre.1 room.before.before.word2.ensures room.before.word3.ensures room.if2.left
+    enterable _ _ _ _ _ _ _ _ _ _ (start_of (read_of room)).requires.1 room.before.before.word2.ensures room.before.word3.ensures room.if2.left
 
 items-requires : (t : ℕ) → block-lts.Need-items-requires (block-claims t) (block-at t) block.Post
 items-requires t c κs =
@@ -90,8 +90,8 @@ items-requires t c κs =
     let read = read_of room in
     let start = start_of read in
     let marked = room.before.before.before.if1.left in (
-      records-fall _ _ _ read.word.ensures.0 marked _ start.pre.0,
-      walkable _ _ _ _ _ _ _ _ _ _ _ _ _ _ _ _ _ start.pre.1 entered.enter.ensures entered.enter.kept.1.1.1.0
+      records-fall _ _ _ read.word.ensures.0 marked _ start.requires.0,
+      walkable _ _ _ _ _ _ _ _ _ _ _ _ _ _ _ _ _ start.requires.1 entered.enter.ensures entered.enter.kept.1.1.1.0
           room.before.before.word2.ensures room.before.word3.ensures (records-near _ _ _ read.word.ensures.0 marked 400000 (omega arith)),
     )
 

@@ -21,7 +21,7 @@ start_of c = c.before.before.before.before.before.before.before.before
 insert-requires : tie.Need-insert-requires
 insert-requires c κs =
     let declared = declared_of c in
-    let p = (start_of declared).pre in
+    let p = (start_of declared).requires in
     let long = p.2.long in
     let room = p.0.room in
     (declared-chained _ _ _ _ _ _ _ _ _ _ p.1 declared.declare-first.kept.1.0 declared.declare-first.ensures p.2, p.1, omega arith, omega arith)
@@ -34,7 +34,7 @@ returns c =
     let kinds = kinds_of named in
     let inserted = inserted_of kinds in
     let declared = declared_of inserted.before in
-    let p = (start_of declared).pre in
+    let p = (start_of declared).requires in
     enters _ _ _ _ _ _ _ p.0.d-read _ _ _ _ _ _ _ _ _ _ p.1 declared.declare-first.ensures inserted.insert.ensures kinds.kinds.ensures named.named-looked.ensures.0
     head.head_word-head.ensures put.put_three.ensures
 

@@ -38,10 +38,10 @@ start_of b = b.before.before
 
 module _ (b : tie.After-lead_of-body) (first_of : ℕ → ℕ) (p : (start_of b).args.first ≡ first_of (word (start_of b))) where
   body_is : b.lead_of-body.result ≡ (way (start_of b) first_of).target (word (start_of b))
-  body_is = let s = start_of b in target-held s.args.cells.now first_of (word s) p s.pre.1.is b.before.held-procedure.ensures.0 b.lead_of-body.ensures
+  body_is = let s = start_of b in target-held s.args.cells.now first_of (word s) p s.requires.1.is b.before.held-procedure.ensures.0 b.lead_of-body.ensures
 
   home-is : {cell home : ℕ} → cell ≡ cell_in b.before.held-procedure.result → home ≡ activation_in cell → home ≡ (way (start_of b) first_of).home (word (start_of b))
-  home-is = let s = start_of b in home-held s.args.cells.now first_of (word s) p s.pre.1.is b.before.held-procedure.ensures.0
+  home-is = let s = start_of b in home-held s.args.cells.now first_of (word s) p s.requires.1.is b.before.held-procedure.ensures.0
 
 -- how many formals the body has
 read : (m : tie.After-formals_of) → let b = lead_of m in m.formals_of.result ≡ formals_in (get_or (start_of b).args.code.now b.lead_of-body.result 0)
@@ -50,7 +50,7 @@ read m = m.formals_of.ensures.0 ∙ ap formals_in m.before.code_at.ensures.0
 formals : (b : tie.After-lead_of-body) → 3 * formals_in (get_or (start_of b).args.code.now b.lead_of-body.result 0) ≤ b.lead_of-body.result
 formals b =
     let s = start_of b in
-    subst (λ (n : ℕ). 3 * formals_in (get_or s.args.code.now n 0) ≤ n) (sym (b.lead_of-body.ensures ∙ ap lead_in b.before.held-procedure.ensures.0)) s.pre.2.before
+    subst (λ (n : ℕ). 3 * formals_in (get_or s.args.code.now n 0) ≤ n) (sym (b.lead_of-body.ensures ∙ ap lead_in b.before.held-procedure.ensures.0)) s.requires.2.before
 
 returns : tie.Need-returns-then-formals_of-count
 returns c =

@@ -30,7 +30,7 @@ formal c =
     sym (ap direct f.before.code_at.ensures.0) ∙ is-formal _ (λ e. c.if-formal_of-eq0.false (f.formal_of.ensures.0 ∙ e))
 
 held-requires : tie.Need-held-requires
-held-requires c κs = let s = start_of c in (s.pre.0, record { reachable = s.pre.1; is = formal c })
+held-requires c κs = let s = start_of c in (s.requires.0, record { reachable = s.requires.1; is = formal c })
 
 returns-2 : tie.Need-returns
 returns-2 c =

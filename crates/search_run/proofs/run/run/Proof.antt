@@ -37,12 +37,12 @@ turn_of c = turn_at c.before
 step-requires : tie.Need-step-requires invariant-loop decreases-loop
 step-requires c κs =
     let l = (turn_at c).before in
-    (goes_on l.loop-left.inv.0 l.before.pre.0, list-has l.loop-left.here l.loop-left.inv.1.1 l.before.pre.1)
+    (goes_on l.loop-left.invariant.0 l.before.requires.0, list-has l.loop-left.here l.loop-left.invariant.1.1 l.before.requires.1)
 
 loop-again : tie.Need-loop-left-preserved invariant-loop decreases-loop
 loop-again c =
     let o = c.before.before.before.before.before in
-    let i = (turn_of o).before.loop-left.inv in
+    let i = (turn_of o).before.loop-left.invariant in
     let kept = o.step.auto in
     (search (rules, goes_further), (search (rules, ◌∙◌), list-went _ i.1.1 _ o.step.ensures.1 c.before.next-1.given.1))
 
@@ -51,21 +51,21 @@ settle-requires c κs =
     let k = cause_of (halt_of c) in
     let o = step_of k in
     let l = (turn_of o).before in
-    (stopped-looking l.loop-left.inv.0 l.before.pre.0 o.step.ensures.0 k.cause-1.given.1, live-placed l.loop-left.inv.0 l.before.pre.0, omega (arith, at-placed l.loop-left.inv.0 l.before.pre.0))
+    (stopped-looking l.loop-left.invariant.0 l.before.requires.0 o.step.ensures.0 k.cause-1.given.1, live-placed l.loop-left.invariant.0 l.before.requires.0, omega (arith, at-placed l.loop-left.invariant.0 l.before.requires.0))
 
 -- the table and the list are as long as they were
 same_length : tie.Need-shape_of-table-in-Stopped invariant-loop decreases-loop
 same_length c =
     let o = step_of (cause_of (halt_of c.before.before)) in
     let kept = o.step.kept in
-    let i = (turn_of o).before.loop-left.inv in
+    let i = (turn_of o).before.loop-left.invariant in
     search (rules, ◌∙◌)
 
 same_length-of-list : tie.Need-shape_of-groups-in-Stopped invariant-loop decreases-loop
 same_length-of-list c =
     let o = step_of (cause_of (halt_of c.before.before)) in
     let kept = o.step.kept in
-    let i = (turn_of o).before.loop-left.inv in
+    let i = (turn_of o).before.loop-left.invariant in
     search (rules, ◌∙◌)
 
 ends : tie.Need-returns-in-Finished invariant-loop decreases-loop
@@ -73,7 +73,7 @@ ends c =
     let e = c.before in
     let o = e.before.before.before.before in
     let t = turn_of o in
-    let i = t.before.loop-left.inv in (
+    let i = t.before.loop-left.invariant in (
       λ w. finished_as i.0 w o.step.ensures.0 e.enum_told-1.given.1 t.loop-left-test.taken c.finished.ensures,
       list-finished _ i.1.1 _ o.step.ensures.1 e.enum_told-1.given.1 c.finished.ensures,
     )
@@ -85,7 +85,7 @@ returns c =
     let k = cause_of h in
     let o = step_of k in
     let t = turn_of o in
-    let i = t.before.loop-left.inv in (
+    let i = t.before.loop-left.invariant in (
       λ w.
           stopped i.0 w o.step.ensures.0 k.cause-1.given.1 e.settle.ensures.1 e.settle.ensures.0 c.named.ensures
           t.loop-left-test.taken h.stopped-halt.ensures,
@@ -99,7 +99,7 @@ over_of c = c.before.before.before.before.before
 settle-requires-2 : tie.Need-settle-requires-2 invariant-loop decreases-loop
 settle-requires-2 c κs =
     let l = (over_of c).before in
-    (looking l.loop-left.inv.0 l.before.pre.0, live-placed l.loop-left.inv.0 l.before.pre.0, omega (arith, at-placed l.loop-left.inv.0 l.before.pre.0))
+    (looking l.loop-left.invariant.0 l.before.requires.0, live-placed l.loop-left.invariant.0 l.before.requires.0, omega (arith, at-placed l.loop-left.invariant.0 l.before.requires.0))
 
 spends : tie.Need-returns invariant-loop decreases-loop
 spends c =
@@ -107,8 +107,8 @@ spends c =
     let o = over_of e.before in
     let h = e.before.before.before.before.before in
     let l = o.before.loop-left in (
-      λ w. spent l.inv.0 w e.settle-2.ensures.1 e.settle-2.ensures.0 c.named-2.ensures (omega arith) h.spent-halt.ensures,
-      list-spent l.here l.inv.1.1 h.spent-halt.ensures c.named-2.ensures,
+      λ w. spent l.invariant.0 w e.settle-2.ensures.1 e.settle-2.ensures.0 c.named-2.ensures (omega arith) h.spent-halt.ensures,
+      list-spent l.here l.invariant.1.1 h.spent-halt.ensures c.named-2.ensures,
     )
 
 pub run_spec : {M : Type 1} → statement M

@@ -12,7 +12,7 @@ begin_of c = c.before.before.before.before.before.before.before
 run-requires : tie.Need-run-requires
 run-requires c κs =
     let b = begin_of c in
-    (search starts, list-starts _ b.begin-start.ensures b.before.pre.1)
+    (search starts, list-starts _ b.begin-start.ensures b.before.requires.1)
 
 returns : tie.Need-returns
 returns c =
