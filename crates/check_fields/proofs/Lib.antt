@@ -1,4 +1,1 @@
-pub mod Held
-pub mod Thin
-pub mod Walk
 pub mod Cycles
