@@ -5,11 +5,10 @@ use Rattle.language.specs.Text.{Block}
 use Rattle.language.specs.Check.{Checked, accepted, refused, check}
 use Rattle.language.specs.Table.{Table, right}
 use Rattle.language.specs.Groups.{list_fits, list_right, relisted}
-use Rattle.language.specs.Machine.{State, Limits, Outcome, run, start}
+use Rattle.language.specs.Machine.{Limits, Outcome, run, start}
 use Rattle.language.specs.Sheet.{sheet_share, sheet_words, looked_up_designator, looked_up_links}
 use Rattle.language.specs.declared.Refusal.{Refusal}
 use Rattle.language.specs.declared.Refusal.TheVariants.{LimitRange, AreaTooShort, TableNotRight}
-use Rattle.language.specs.declared.End.{End}
 use Rattle.language.specs.declared.End.TheVariants.{Refused}
 use Rattle.language.specs.declared.Answer.{Answer}
 

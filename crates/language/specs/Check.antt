@@ -1,5 +1,5 @@
 -- Causes and numbers: the script check by itself, refusals 1 to 11 in their order.
-use Rattle.std.specs.Prelude.{ℕ, zero, ◌%◌, Bool, true, false, ◌&&◌, List, [], ◌∷◌, eqb, leb, length}
+use Rattle.std.specs.Prelude.{ℕ, ◌%◌, Bool, true, false, ◌&&◌, List, [], ◌∷◌, eqb, leb, length}
 use Rattle.language.specs.Text.{Block}
 use Rattle.language.specs.Encoding.{fields_of}
 use Rattle.language.specs.Structure.{Reading, read, refuse, program}

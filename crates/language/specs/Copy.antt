@@ -1,8 +1,8 @@
 -- The copy rule, written out: a text with names replaced, wherever no nearer declaration hides them.
-use Rattle.std.specs.Prelude.{ℕ, Bool, true, false, List, [], ◌∷◌, ◌++◌, map}
-use Rattle.std.proofs.Math.Option.{Option, none, some}
+use Rattle.std.specs.Prelude.{ℕ, true, false, List, [], ◌∷◌, ◌++◌, map}
+use Rattle.std.proofs.Math.Option.{none, some}
 use Rattle.language.specs.Basics.{among, lookup}
-use Rattle.language.specs.Text.{Operation, Formal, Action, CL, GO, IF, KN, AR, AD, RM, QY, Block, block, Decl, VR, LB, PR, Stmt, BK, DO, Decls, no-decl, decl, Stmts, no-stmt, stmt, formal_names, declared_names}
+use Rattle.language.specs.Text.{Action, CL, GO, IF, KN, AR, AD, RM, QY, Block, block, Decl, VR, LB, PR, Stmt, BK, DO, Decls, no-decl, decl, Stmts, no-stmt, stmt, formal_names, declared_names}
 
 -- names with what replaces them, all together
 abbrev pub Replacement : Type 0

@@ -1,17 +1,17 @@
 -- One step, and The copy rule, written out: the machine that every engine is held to.
-use Rattle.std.specs.Prelude.{ℕ, zero, suc, pred, ◌+◌, ◌-◌, true, false, List, [], ◌∷◌, ◌++◌, map, eqb, leb, ltb, ℤ, pos, negsuc, ◌+ℤ◌, ◌-ℤ◌, length, take}
+use Rattle.std.specs.Prelude.{ℕ, zero, suc, pred, ◌+◌, ◌-◌, true, false, List, [], ◌∷◌, ◌++◌, map, eqb, leb, ltb, ℤ, pos, ◌+ℤ◌, ◌-ℤ◌, length, take}
 use Rattle.std.proofs.Math.Option.{Option, none, some}
 use Rattle.std.proofs.Math.ListN.{get_elem?}
 use Rattle.std.specs.Int.Signed.{mag, lt_z}
 use Rattle.language.specs.Basics.{lookup, zip, up_from, last?, but_last, eq_z}
-use Rattle.language.specs.Text.{Kind, Operation, plus, minus, less, Action, CL, GO, IF, KN, AR, AD, RM, QY, Block, Decl, VR, LB, PR, Stmt, BK, DO, block_at, block_decls, block_stmts, stmt_at, decl_name, decl_kind, label_index, decl_formals, decl_body, formal_names, formal_kinds, declared_names}
+use Rattle.language.specs.Text.{Kind, Operation, plus, minus, less, Action, CL, GO, IF, KN, AR, AD, RM, QY, Block, Decl, VR, LB, PR, Stmt, BK, DO, block_decls, block_stmts, stmt_at, decl_name, decl_kind, label_index, decl_formals, decl_body, formal_names, formal_kinds, declared_names}
 use Rattle.language.specs.Scope.{agree}
 use Rattle.language.specs.Table.{Table, Effect, leaves, halts, Asked, gives, refuses, added, removed, queried}
 use Rattle.language.specs.Copy.{Replacement, rename_block}
 use Rattle.language.specs.declared.Stop.{Stop}
 use Rattle.language.specs.declared.Stop.TheVariants.{ResultTooLarge, NoActivationLeft, ArgumentsDiffer}
 use Rattle.language.specs.declared.End.{End}
-use Rattle.language.specs.declared.End.TheVariants.{Finished, Spent, Stopped, Refused}
+use Rattle.language.specs.declared.End.TheVariants.{Finished, Spent, Stopped}
 
 -- An activation. No other shares its text; `arguments` are the names put for its formals; `encloser` is the number of the activation
 -- from whose copy the text was taken, 0 for the program, which stands in none; `reads` says how the names in sight of the text now

@@ -2,22 +2,18 @@
 -- rules out, in one table.
 -- docs/READINGS.md has the wrong readings that the rows rule out.
 -- A row compares whole replies: end with cause, steps, offset, pairs in use, count of sheet words, tally, designator and links of the answer,
--- and every word of sheet, table and list. `samples-hold` is the claim about all rows, each for every engine that it is about and no other;
--- `computed-once` is the test that is computed. A script's length is stated where document 01 gives it (`bytes-A`, `bytes-B`).
-use Rattle.std.specs.Prelude.{ℕ, zero, suc, ◌+◌, ◌-◌, ◌*◌, ◌/◌, ◌<◌, ◌≡◌, refl, ℤ, pos, negsuc, length, get_or, replicate}
-use Rattle.std.proofs.Common.{not-suc-le-zero, le_of_suc-le-suc}
-use mathlib.Core.List.{List, [], ◌∷◌, ◌++◌, map, head-eq_of_cons-eq, tail-eq_of_cons-eq}
+-- and every word of sheet, table and list. The claim about all rows is `samples-hold` in proofs/Samples.antt.
+use Rattle.std.specs.Prelude.{ℕ, zero, suc, ◌+◌, ◌-◌, ◌*◌, ◌/◌, ℤ, pos, negsuc, length, get_or, replicate}
+use mathlib.Core.List.{List, [], ◌∷◌, ◌++◌, map}
 use Rattle.language.specs.Basics.{up_from}
 use Rattle.language.specs.Encoding.{bytes_of, BK-mark, VR-mark, LB-mark, PR-mark, FM-mark, CL-mark, GO-mark, IF-mark, KN-mark, AR-mark, AD-mark, RM-mark, QY-mark}
 use Rattle.language.specs.Table.{Table}
 use Rattle.language.specs.Call.{Fed, Reply, Engine, copying, chain, display, search, reply}
-use Rattle.language.specs.Evaluation.{computed}
-use Rattle.language.specs.declared.Stop.TheVariants.{ResultTooLarge, NoActivationLeft, NumberBelowOne, GroupFull, TableFull, ArgumentsDiffer}
+use Rattle.language.specs.declared.Stop.TheVariants.{ResultTooLarge, NoActivationLeft, GroupFull, TableFull, ArgumentsDiffer}
 use Rattle.language.specs.declared.Refusal.{Refusal}
 use Rattle.language.specs.declared.Refusal.TheVariants.{ScriptLength, FieldRange, BytesAfter, NestingDepth, TooManyNames, NameTwice, NotVisible, WrongKind, LimitRange, AreaTooShort, TableNotRight}
 use Rattle.language.specs.declared.End.{End}
 use Rattle.language.specs.declared.End.TheVariants.{Finished, Spent, Stopped, Refused}
-use Rattle.language.specs.declared.Answer.{Answer}
 
 -- Which engines a row is about: all, each lent what it is due of its own, or one with so much of its own.
 pub data About : Type 0 where
@@ -341,25 +337,3 @@ replies f r = map (f r) (parties r)
 unfoldable pub tabled : Unit {0}
 unfolding lent_tally lent_words lent_sheet fed parties got wanted replies no_pairs script-empty script-null script-A script-B script-arithmetic script-nested script-order script-goto script-crossed script-procedure inside-blocks script-use script-pair script-formal script-highest script-own script-handed script-hidden script-negative script-padded ends-within ends_with of-A A-stopped B-spent spent-at refused-with all-wrong wrong-list not_listed pair-taken-out samples
 tabled = tt
-
-computed-once : map (replies got) samples ≡ map (replies wanted) samples
-unfolding computed tabled
-computed-once = refl
-
-pub bytes-A : length script-A ≡ 36
-unfolding computed tabled
-bytes-A = refl
-
-pub bytes-B : length script-B ≡ 122
-unfolding computed tabled
-bytes-B = refl
-
-each {ℓ} : {A : Type ℓ} {B : Type 0} (f g : A → B) (xs : List A) (d : A) → map f xs ≡ map g xs → (k : ℕ) → k < length xs → f (get_or xs k d) ≡ g (get_or xs k d)
-each f g [] d e k h = absurd (not-suc-le-zero h)
-each f g (x ∷ xs) d e zero h = head-eq_of_cons-eq e
-each f g (x ∷ xs) d e (suc k) h = each f g xs d (tail-eq_of_cons-eq e) k (le_of_suc-le-suc h)
-
--- Every row holds, of every engine that it is about: the whole reply is the one wanted.
-pub samples-hold : (k : ℕ) → k < length samples → replies got (row k) ≡ replies wanted (row k)
-unfolding row
-samples-hold k h = each (replies got) (replies wanted) samples (ends_with script-empty 16 (Refused ScriptLength) 0 0 []) computed-once k h

@@ -1,10 +1,10 @@
 -- State sheet: the words of the live activations, designators, the looked-up name and its links.
-use Rattle.std.specs.Prelude.{ℕ, zero, suc, ◌+◌, ◌*◌, Bool, true, false, List, [], ◌∷◌, ◌++◌, map, ℤ, pos}
+use Rattle.std.specs.Prelude.{ℕ, suc, ◌+◌, ◌*◌, List, [], ◌∷◌, ◌++◌, map, ℤ, pos}
 use Rattle.std.proofs.Math.Option.{Option, none, some}
 use Rattle.language.specs.Basics.{lookup, last?}
-use Rattle.language.specs.Text.{Block, Decl, VR, LB, PR, block_at, block_decls}
+use Rattle.language.specs.Text.{Decl, VR, LB, PR, block_at, block_decls}
 use Rattle.language.specs.Copy.{Replacement}
-use Rattle.language.specs.Machine.{Activation, State, Instance, instance, value}
+use Rattle.language.specs.Machine.{Activation, State, instance, value}
 
 -- 64 numbers to an activation, so that its number and the position can both be read off; 0 for a name of no instance
 unfoldable pub designator : State → ℕ → ℕ

@@ -1,5 +1,5 @@
 -- Encoding: the text of a script as a tree. A record's first field here is its byte offset, by which a refusal or a stop names it.
-use Rattle.std.specs.Prelude.{ℕ, ◌+◌, Bool, true, false, List, [], ◌∷◌, ◌++◌, map, ℤ}
+use Rattle.std.specs.Prelude.{ℕ, Bool, true, false, List, [], ◌∷◌, map, ℤ}
 
 -- the kinds, in the order of FM's numbers
 pub data Kind : Type 0 where
