@@ -1,5 +1,7 @@
 // The list of groups beside the membership table: a group found in it, its number read, and one member more or one less written. The words
 // 2 i and 2 i + 1 are the group and the number of place i.
+#![tactic(auto)]
+
 ghost use Rattle.std.specs.Prelude.{◌≡◌, ℕ, suc, ◌+◌, ◌*◌, ◌/◌, ◌<◌, ◌≤◌, true, ◌&&◌, List, length, ℤ, pos, nat_le, slice_index, slice_index_or, unsigned_abs};
 ghost use Rattle.language.specs.Table.{at_least_one};
 ghost use Rattle.table_laws.specs.Places.{number_in, one_more, one_less};

@@ -21,7 +21,7 @@ listed c = listing-length c.before.requires.1.1
 add-middle : tie.Need-overflow_add-middle invariant-loop decreases-loop
 add-middle c = omega (arith, listed c.before)
 
-mul-word_at : tie.Need-overflow_mul-word_at invariant-loop decreases-loop
+mul-word_at : tie.Need-overflow_mul-middle invariant-loop decreases-loop
 mul-word_at c = omega (arith, listed c.before)
 
 word_at-requires : tie.Need-word_at-requires invariant-loop decreases-loop
