@@ -1,5 +1,7 @@
 // The words of the membership table as pairs: read, compared and found. The words 2 i and 2 i + 1 of the slice are the group and the member of
 // the pair at place i.
+#![tactic(auto)]
+
 ghost use Rattle.std.specs.Prelude.{◌≡◌, ◌&&◌, ◌+◌, ◌*◌, ◌/◌, ◌<◌, ◌≤◌, min, length};
 ghost use Rattle.std.proofs.Math.Option.{none};
 ghost use Rattle.language.specs.Basics.{eq_z};

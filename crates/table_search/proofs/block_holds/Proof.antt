@@ -33,10 +33,10 @@ loop-again c =
     let l = k.loop-j in
     let t = c.before.pair_is.ensures in (
       omega arith,
-      ⊎_elim (λ w. let q = w.1 in omega arith) (λ w. let q = w.1 in omega arith) c.if-pair_is.branch-raw,
+      ⊎_elim (λ w. let q = w.hits-is in omega arith) (λ w. let q = w.hits-is in omega arith) c.if-pair_is.branch-raw,
       rw add-one (⊎_elim
-          (λ w. hits_more _ _ _ l.j _ (sym t ∙ w.0.taken) (w.1 ∙ add-one l.hits))
-          (λ w. hits-same _ _ _ l.j _ (sym t ∙ w.0.left) w.1 l.invariant.2)
+          (λ w. hits_more _ _ _ l.j _ (sym t ∙ w.if-pair_is.true) (w.hits-is ∙ add-one l.hits))
+          (λ w. hits-same _ _ _ l.j _ (sym t ∙ w.if-pair_is.false) w.hits-is l.invariant.2)
           c.if-pair_is.branch-raw),
     )
 

@@ -39,7 +39,7 @@ returns c =
     let s = start_of k in
     let l = k.loop-i in
     let n = k.before.before.pairs_in-n in
-    answer s.fits.group s.fits.member s.args.count s.args.table.now n.result refl n.ensures
+    answer s.ranges.group s.ranges.member s.args.count s.args.table.now n.result refl n.ensures
     (find-hit _ _ n.result (room l.i _ (omega arith)) l.invariant.1 (sym c.before.pair_is.ensures ∙ c.if-pair_is.true) (omega arith))
 
 loop-again : tie.Need-loop-i-preserved invariant-loop decreases-loop
@@ -50,7 +50,7 @@ unfolding placed
 returns-2 c =
     let s = start_of c.before in
     let l = c.before.loop-i in
-    answer s.fits.group s.fits.member s.args.count s.args.table.now l.i (omega arith) c.before.before.before.pairs_in-n.ensures l.invariant.1
+    answer s.ranges.group s.ranges.member s.args.count s.args.table.now l.i (omega arith) c.before.before.before.pairs_in-n.ensures l.invariant.1
 
 pub place_of_spec : {M : Type 1} → statement M
 place_of_spec =

@@ -29,7 +29,7 @@ held :
     (c : tie.At-loop-i invariant-loop decreases-loop) {v : Bool} → let s = start_of c in
     is_some (find (to_z w32 (of_z w32 s.args.group)) (to_z w32 (of_z w32 s.args.member)) c.loop-i.i s.args.table.now) ≡ v →
     v ≡ is_some (find s.args.group s.args.member s.args.count s.args.table.now)
-held c q = let s = start_of c in rw (to_z-of_z s.fits.group, to_z-of_z s.fits.member) at (sym q ∙ c.loop-i.invariant.1)
+held c q = let s = start_of c in rw (to_z-of_z s.ranges.group, to_z-of_z s.ranges.member) at (sym q ∙ c.loop-i.invariant.1)
 
 loop-holds : tie.Need-loop-i-init invariant-loop decreases-loop
 loop-holds c =
@@ -59,10 +59,10 @@ loop-again c =
     )
 
 returns-2 : tie.Need-returns-in-At invariant-loop decreases-loop
-returns-2 c = let p = c.before.before in held p.before.before (held_at _ (sym p.place_of-found.ensures ∙ c.enum_told-1.given.1))
+returns-2 c = let p = c.before in held p.before.before (held_at _ (sym p.place_of-found.ensures ∙ c.in-At.is))
 
 returns-3 : tie.Need-returns-in-Absent invariant-loop decreases-loop
-returns-3 c = let p = c.before.before in held p.before.before (held-not _ (sym p.place_of-found.ensures ∙ c.enum_told-in-Absent-1.given.1))
+returns-3 c = let p = c.before in held p.before.before (held-not _ (sym p.place_of-found.ensures ∙ c.in-Absent.is))
 
 pub present_spec : {M : Type 1} → statement M
 present_spec =
