@@ -1,4 +1,6 @@
 // Pairs of words in a slice: one is taken out and the gap closed, one is put in and room made for it.
+#![tactic(auto)]
+
 ghost use Rattle.std.specs.Prelude.{◌≡◌, ◌+◌, ◌*◌, ◌-◌, ◌≤◌, min, length};
 ghost use Rattle.language.specs.Table.{take_out};
 ghost use Rattle.table_moves.specs.PutIn.{put_in};

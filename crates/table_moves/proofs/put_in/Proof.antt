@@ -28,7 +28,7 @@ loop-again c =
       omega arith,
       omega arith,
       simp length-set l.invariant.2,
-      rw (back (get_or l.table-1 (l.i - 1) (pos 0)) c.table-1.given) (put-again _ l.i _ _ l.table-1 (omega arith) (omega arith) ∙ l.invariant.3),
+      rw (back (get_or l.table (l.i - 1) (pos 0)) c.table-1.given) (put-again _ l.i _ _ l.table (omega arith) (omega arith) ∙ l.invariant.3),
     )
 
 returns : tie.Need-returns invariant-loop decreases-loop
@@ -37,7 +37,7 @@ returns c =
     let s = c.before.before in
     let start = 2 * s.args.place in
     let e : l.i - start ≡ 0 = omega arith in
-    rw (to_z-of_z s.ranges.first, to_z-of_z s.ranges.second) (sym (put_last start s.args.first s.args.second l.table-1 (omega arith)) ∙
+    rw (to_z-of_z s.ranges.first, to_z-of_z s.ranges.second) (sym (put_last start s.args.first s.args.second l.table (omega arith)) ∙
     (rw (e, to_z-of_z s.ranges.first, to_z-of_z s.ranges.second) at l.invariant.3))
 
 pub put_in_spec : {M : Type 1} → statement M

@@ -22,13 +22,13 @@ abbrev end_of : tie.At-loop-i invariant-loop decreases-loop → ℕ
 end_of l = l.before.before.words_in-end.result
 
 returns : tie.Need-returns-then-end-place invariant-loop decreases-loop
-returns c = let s = c.before.before in take_out-past s.args.place s.args.count s.args.table-1.now (omega (arith, c.before.words_in-end.ensures))
+returns c = let s = c.before.before in take_out-past s.args.place s.args.count s.args.table.now (omega (arith, c.before.words_in-end.ensures))
 
 loop-holds : tie.Need-loop-i-init invariant-loop decreases-loop
 loop-holds c =
     let w = c.before.words_in-end in
     let s = c.before.before in
-    (omega arith, omega arith, refl, sym (take_out-cut s.args.place s.args.count w.result s.args.table-1.now w.ensures (omega arith)))
+    (omega arith, omega arith, refl, sym (take_out-cut s.args.place s.args.count w.result s.args.table.now w.ensures (omega arith)))
 
 loop-again : tie.Need-loop-i-preserved invariant-loop decreases-loop
 loop-again c =
@@ -39,14 +39,14 @@ loop-again c =
       omega arith,
       l.invariant.1,
       simp length-set l.invariant.2,
-      rw (back _ c.table-1.given, add-one l.i) (cut_step l.i _ l.table-1 (omega arith) ∙ rw e l.invariant.3),
+      rw (back _ c.table-1.given, add-one l.i) (cut_step l.i _ l.table (omega arith) ∙ rw e l.invariant.3),
     )
 
 returns-2 : tie.Need-returns invariant-loop decreases-loop
 returns-2 c =
     let l = c.before.loop-i in
     let e : end_of c.before - (l.i + 2) ≡ 0 = omega arith in
-    sym (cut-last l.i l.table-1 (omega arith)) ∙ (rw e at l.invariant.3)
+    sym (cut-last l.i l.table (omega arith)) ∙ (rw e at l.invariant.3)
 
 pub take_out_spec : {M : Type 1} → statement M
 take_out_spec =
