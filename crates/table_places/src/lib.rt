@@ -1,5 +1,7 @@
 // The lent list of groups as it stands, with no look at the table: its places, up to the first whose group is 0, and zeros after them. The
 // words 2 p and 2 p + 1 of the slice are the group and the number of the place at p.
+#![tactic(auto)]
+
 ghost use Rattle.std.specs.Prelude.{◌≡◌, ◌+◌, ◌*◌, ◌<◌, ◌≤◌, pos, nat_abs, length, take, drop, get_or};
 ghost use Rattle.table_places.specs.Places.{Natural, stands_at, place_fits, all_zero, ended, read_places};
 

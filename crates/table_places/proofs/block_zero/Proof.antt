@@ -4,7 +4,6 @@ use mathlib.Core.Path.{◌≡◌, refl, sym, ◌∙◌}
 use mathlib.Core.Logic.{⊎_elim}
 use native.Mathlib.Numerals.{add-one}
 use native.Mathlib.Omega.{arith}
-use borrow.Author.Tests.{not-true, not-false}
 use lib.Dec.{eqb}
 use lib.IntN.{pos}
 use lib.ListN.{length, take, drop, get_or}
@@ -39,8 +38,8 @@ loop-again c =
       omega arith,
       ⊎_elim (λ w. omega arith) (λ w. omega arith) c.if-not-same_number.branch-raw,
       rw add-one (⊎_elim
-          (λ w. others-more _ _ _ h (sym t ∙ not-true _ w.0.taken) (w.1 ∙ add-one l.loop-j.others))
-          (λ w. others_same _ _ _ h (sym t ∙ not-false _ w.0.left) w.1 l.loop-j.invariant.2)
+          (λ w. others-more _ _ _ h (sym t ∙ w.if-not-same_number.true) (w.others-is ∙ add-one l.loop-j.others))
+          (λ w. others_same _ _ _ h (sym t ∙ w.if-not-same_number.false) w.others-is l.loop-j.invariant.2)
           c.if-not-same_number.branch-raw),
     )
 

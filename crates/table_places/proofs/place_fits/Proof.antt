@@ -3,7 +3,7 @@ use mathlib.Core.Path.{◌≡◌, refl, sym, ◌∙◌}
 use mathlib.Core.Bool.{true, ◌&&◌}
 use native.Mathlib.Omega.{arith}
 use borrow.Author.Rules.{rules}
-use borrow.Author.Tests.{not-true, not-false, le-ltb, lt-ltb, lt-leb, le-leb}
+use borrow.Author.Tests.{le-ltb, lt-ltb, lt-leb, le-leb}
 use lib.IntN.{nat_abs}
 use Rattle.laws.specs.Tests.{both}
 use Rattle.language.specs.Table.{at_least_one}
@@ -17,14 +17,14 @@ tested : (c : tie.After-numbers_fit) → let s = c.before in c.numbers_fit.resul
 tested c = let s = c.before in number-words c.numbers_fit.ensures s.ranges.group.sfits s.ranges.number.sfits refl refl
 
 at_least : (c : tie.Else-not-numbers_fit) → (at_least_one c.before.before.args.group ≡ true) × (at_least_one c.before.before.args.number ≡ true)
-at_least c = both _ _ (sym (tested c.before) ∙ not-false _ c.if-not-numbers_fit.false)
+at_least c = both _ _ (sym (tested c.before) ∙ c.if-not-numbers_fit.false)
 
 returns : tie.Need-returns-then-not-numbers_fit
 unfolding place_fits
-returns c = rw (sym (tested c.before) ∙ not-true _ c.if-not-numbers_fit.true)
+returns c = rw (sym (tested c.before) ∙ c.if-not-numbers_fit.true)
 
-cast-if2 : tie.Need-overflow_cast-if2
-cast-if2 c =
+cast-group : tie.Need-overflow_cast-group
+cast-group c =
     let s = c.before.before in
     natural-cast s.args.group s.ranges.group.sfits (from_one s.args.group (at_least c).0).0
 
@@ -45,8 +45,8 @@ returns-2 c =
     let s = e.before.before in
     rw ((at_least e).0, (at_least e).1, le-ltb s.args.last (nat_abs s.args.group) (omega (arith, (group-word e).0)))
 
-cast-if3 : tie.Need-overflow_cast-if3
-cast-if3 c =
+cast-number : tie.Need-overflow_cast-number
+cast-number c =
     let e = c.before in
     let s = e.before.before in
     natural-cast s.args.number s.ranges.number.sfits (from_one s.args.number (at_least e).1).0
@@ -64,7 +64,7 @@ returns-3 c =
     )
 
 cast-result : tie.Need-overflow_cast-result
-cast-result c = cast-if3 c.before
+cast-result c = cast-number c.before
 
 returns-4 : tie.Need-returns
 unfolding place_fits
@@ -81,4 +81,4 @@ returns-4 c =
 
 pub place_fits_spec : {M : Type 1} → statement M
 place_fits_spec =
-    tie.close (tie.spec (λ c κs. search rules) returns cast-if2 returns-2 cast-if3 returns-3 cast-result returns-4)
+    tie.close (tie.spec (λ c κs. search rules) returns cast-group returns-2 cast-number returns-3 cast-result returns-4)

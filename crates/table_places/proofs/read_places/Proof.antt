@@ -4,7 +4,6 @@ use mathlib.Core.Path.{◌≡◌, refl, sym, ◌∙◌, ap₂, subst}
 use mathlib.Core.Bool.{true}
 use native.Mathlib.Numerals.{add-one}
 use native.Mathlib.Omega.{arith}
-use borrow.Author.Tests.{not-true, not-false}
 use lib.ListN.{length, drop}
 use Rattle.laws.specs.Tables.{group_at, member_at}
 use Rattle.table_search.proofs.Signed.{back}
@@ -47,13 +46,13 @@ stood c = let t = c.before.before.before in sym t.before.stands.ensures ∙ t.lo
 fit :
     (c : tie.Else-not-place_fits invariant-loop decreases-loop) → let l = loop_of c.before in let s = l.before in
     Fitting s.args.limit l.loop-limit.last l.loop-limit.left (group_at l.loop-limit.k s.args.list.now) (member_at l.loop-limit.k s.args.list.now)
-fit c = fitting _ _ _ _ _ (sym (tested c.before) ∙ not-false _ c.if-not-place_fits.false)
+fit c = fitting _ _ _ _ _ (sym (tested c.before) ∙ c.if-not-place_fits.false)
 
 returns : tie.Need-returns-then-not-place_fits invariant-loop decreases-loop
 returns c =
     let k = c.before in
     let l = loop_of k in
-    sym (read-wrong _ _ _ _ _ (stood k) (sym (tested k) ∙ not-true _ c.if-not-place_fits.true)) ∙ l.loop-limit.invariant.1
+    sym (read-wrong _ _ _ _ _ (stood k) (sym (tested k) ∙ c.if-not-place_fits.true)) ∙ l.loop-limit.invariant.1
 
 within : (c : tie.Else-not-place_fits invariant-loop decreases-loop) → let l = loop_of c.before in 2 * l.loop-limit.k + 1 < length l.before.args.list.now
 within c = there c.before.before.before.before
@@ -72,7 +71,7 @@ loop-again c =
       subst (λ (T : Type 0). T)
           (λ i. read_places s.args.limit (sym c.before.natural_at-last.ensures.0 i) (l.loop-limit.left - sym c.natural_at.ensures.0 i) (sym z i) (drop (2 * sym z i) s.args.list.now) ≡
           read_places s.args.limit 0 s.args.count 0 s.args.list.now)
-          (sym (read_next _ _ _ _ _ (stood k) (sym (tested k) ∙ not-false _ e.if-not-place_fits.false)) ∙ l.loop-limit.invariant.1),
+          (sym (read_next _ _ _ _ _ (stood k) (sym (tested k) ∙ e.if-not-place_fits.false)) ∙ l.loop-limit.invariant.1),
     )
 
 returns-2 : tie.Need-returns invariant-loop decreases-loop

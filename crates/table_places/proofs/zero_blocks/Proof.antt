@@ -3,7 +3,6 @@ use Prim.Native.Nat.{◌≤◌, ◌-◌}
 use mathlib.Core.Path.{◌≡◌, refl, sym, ◌∙◌}
 use native.Mathlib.Omega.{arith}
 use borrow.Author.Rules.{rules}
-use borrow.Author.Tests.{not-false}
 use lib.ListN.{length, drop}
 use Rattle.table_places.specs.Places.{all_zero}
 use Rattle.table_places.proofs.Zeros.{zero-passed}
@@ -20,7 +19,7 @@ loop-again : tie.Need-loop-i-preserved invariant-loop decreases-loop
 loop-again c =
     let b = c.before in
     let l = b.before.before in
-    (omega arith, l.loop-i.invariant.1 ∙ zero-passed 64 l.loop-i.i l.before.args.list.now (sym b.block_zero.ensures ∙ not-false _ c.if-not-block_zero.false))
+    (omega arith, l.loop-i.invariant.1 ∙ zero-passed 64 l.loop-i.i l.before.args.list.now (sym b.block_zero.ensures ∙ c.if-not-block_zero.false))
 
 pub zero_blocks_spec : {M : Type 1} → statement M
 zero_blocks_spec =

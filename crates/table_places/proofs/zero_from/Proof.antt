@@ -5,7 +5,6 @@ use mathlib.Core.Bool.{Bool, ◌&&◌}
 use native.Mathlib.Numerals.{add-one}
 use native.Mathlib.Omega.{arith}
 use borrow.Author.Rules.{rules}
-use borrow.Author.Tests.{not-true, not-false}
 use lib.IntN.{pos}
 use lib.ListN.{length, drop}
 use Rattle.table_search.proofs.Signed.{same-cells}
@@ -39,13 +38,13 @@ tested c =
 returns : tie.Need-returns-then-not-same_number invariant-loop decreases-loop
 returns c =
     let k = c.before in
-    sym (tested k ∙ ap (λ (t : Bool). t && all_zero (drop (suc (loop_of k).loop-i.i) (start_of (loop_of k)).args.list.now)) (not-true k.same_number.result c.if-not-same_number.true))
+    sym (tested k ∙ ap (λ (t : Bool). t && all_zero (drop (suc (loop_of k).loop-i.i) (start_of (loop_of k)).args.list.now)) c.if-not-same_number.true)
 
 loop-again : tie.Need-loop-i-preserved invariant-loop decreases-loop
 loop-again c =
     let k = c.before in (
       omega arith,
-      rw add-one (tested k ∙ ap (λ (t : Bool). t && all_zero (drop (suc (loop_of k).loop-i.i) (start_of (loop_of k)).args.list.now)) (not-false k.same_number.result c.if-not-same_number.false)),
+      rw add-one (tested k ∙ ap (λ (t : Bool). t && all_zero (drop (suc (loop_of k).loop-i.i) (start_of (loop_of k)).args.list.now)) c.if-not-same_number.false),
     )
 
 returns-2 : tie.Need-returns invariant-loop decreases-loop
