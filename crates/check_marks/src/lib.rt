@@ -1,4 +1,6 @@
 // The table of marks (document 01, "Code places and their forms"), and the search through it.
+#![tactic(auto)]
+
 ghost use Rattle.std.specs.Prelude.{◌≡◌, ◌<◌};
 ghost use Rattle.check_marks.specs.Marks.{bit_of, fit_at};
 ghost use Rattle.check_marks.specs.Counts.{field_count};

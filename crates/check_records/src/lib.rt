@@ -1,4 +1,6 @@
 // Reading the records of a script: a mark that is fit for its place, and as many fields as its row of the table of marks says.
+#![tactic(auto)]
+
 ghost use Rattle.std.specs.Prelude.{◌≡◌};
 ghost use Rattle.check_records.specs.Taking.{progress_of};
 
