@@ -1,4 +1,6 @@
 // Leaving and jumping, for engines that keep for each activation the place of its block and of its next statement, and no display.
+#![tactic(auto)]
+
 ghost use Rattle.std.specs.Prelude.{◌≡◌, ◌+◌, ◌-◌, ◌<◌, ◌≤◌, get_or, set};
 ghost use Rattle.resolved.specs.Layout.{end_in};
 ghost use Rattle.run_records.specs.Resumed.{now_at};

@@ -1,5 +1,7 @@
 // What statements do once their names are found, for every engine: stores, sums, arguments, and the words of a new activation. An activation
 // has 32 cells, one for each name; the array has room after them, so that clearing goes by four.
+#![tactic(auto)]
+
 ghost use Rattle.std.specs.Prelude.{◌≡◌, false, ◌+◌, ◌*◌, ◌<◌, ◌≤◌, ◌^◌, ltb, ℤ, pos, ◌+ℤ◌, ◌-ℤ◌, get_or, set};
 ghost use Rattle.std.specs.Int.Signed.{mag, lt_z};
 ghost use Rattle.language.specs.Encoding as encoding;
