@@ -1,4 +1,6 @@
 // The activation records of the chain engine: small structs in a slice that the caller lends, read, pushed and followed. Nothing else looks into the slice.
+#![tactic(auto)]
+
 ghost use Rattle.std.specs.Prelude.{◌≡◌, ◌<◌, ◌≤◌, length, set};
 ghost use Rattle.chain_records.specs.Records.{at, hop, Linked};
 
