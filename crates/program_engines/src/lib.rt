@@ -1,4 +1,6 @@
 // The engines by name, for programs: a call of each, with an area of its own where it needs one, and its answer in print.
+#![tactic(auto)]
+
 ghost use Rattle.language.specs.Call.{chain};
 ghost use Rattle.call_admission.specs.Lent.{fed_of};
 ghost use Rattle.call_answers.specs.Replies.{Replies};
@@ -7,8 +9,10 @@ ghost use Rattle.program_engines.specs.Engines.{engine_named};
 use chain_records::Activation;
 
 mod printing;
+mod reading;
 
 pub use printing::{print_answer, print_number, print_words, say};
+pub use reading::read_full;
 
 // In the order in which programs name them.
 #[derive(Clone, Copy)]

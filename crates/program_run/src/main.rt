@@ -1,7 +1,12 @@
-// Document 01's run program: the file script.bin on each engine, a line for each answer and one for each pair in use.
-ghost use Rattle.io.specs.Counts.{IsPrefixLen};
+// The run program: the file script.bin on each engine, a line for each answer and one for each pair in use.
+#![tactic(auto)]
 
-use program_engines::{Engine, call, print_answer, print_words, say};
+ghost use Rattle.std.specs.Io.{ReadsAtMost};
+
+use program_engines::{Engine, call, print_answer, print_words, read_full, say};
+use std::fs::File;
+use std::io;
+use std::rt::Files;
 
 // What each run is fed.
 const D: u32 = 16;
@@ -13,41 +18,50 @@ const G: u32 = 3;
 // The longest script, in bytes.
 const LONGEST: usize = 2048;
 
-// Puts the script's bytes at the start of the room and gives their number. A file that is missing or too long is taken as one of length 0.
-fn read_script(room: &mut [u8]) -> usize
-    ensures { IsPrefixLen result room.new }
+// Says on the standard error why there is no script: what the system calls it, without its number.
+fn explain(rt: &(impl Eprint + AllocGlobal), error: io::Error) -> io::Result<()> {
+    let text = format!(in rt.alloc(); "{error}")?;
+    let why = match text.as_str().split_once(" (os error ") {
+        Some((words, _)) => words,
+        None => text.as_str(),
+    };
+    eprintln!(rt; "script.bin is taken as a script of length 0: {why}")
+}
+
+// Puts the script's bytes at the start of the room and gives their number. A file that cannot be opened or is too long is taken as one of length 0.
+fn read_script(rt: &(impl Files + Eprint + AllocGlobal), room: &mut [u8]) -> io::Result<usize>
+    ensures { ReadsAtMost result room.new }
 {
-    let file = os::open_read(b"script.bin");
-    if file < 0 {
-        os::fail(b"script.bin is taken as a script of length 0");
-        return 0;
-    }
-    let length = io::read_full(file, room);
-    libc::close(file);
+    let mut file = match File::open(rt, "script.bin") {
+        Ok(file) => file,
+        Err(error) => {
+            explain(rt, error)?;
+            return Ok(0);
+        }
+    };
+    let length = read_full(&mut file, room)?;
     if LONGEST < length {
-        io::write_all(
-            2,
-            b"script.bin is taken as a script of length 0: it has more than 2,048 bytes\n",
-        );
-        return 0;
+        eprintln!(rt; "script.bin is taken as a script of length 0: it has more than 2,048 bytes")?;
+        return Ok(0);
     }
-    length
+    Ok(length)
 }
 
 // A line for each pair in use.
-fn print_pairs(table: &[i32], pairs: u64) {
+fn print_pairs(out: &impl Print, table: &[i32], pairs: u64) -> io::Result<()> {
     let mut pair: usize = 0;
     while pair < 8 {
         if pairs <= pair as u64 {
-            return;
+            return Ok(());
         }
-        print_words(table, 2 * pair, 2 * pair + 2);
+        print_words(out, table, 2 * pair, 2 * pair + 2)?;
         pair += 1;
     }
+    Ok(())
 }
 
 // An engine on an empty table of 8 pairs, and its list.
-fn run(engine: Engine, script: &[u8]) {
+fn run(out: &impl Print, engine: Engine, script: &[u8]) -> io::Result<()> {
     let mut table = [0i32; 16];
     let mut groups = [0i32; 16];
     let mut sheet = [0i32; 560];
@@ -63,17 +77,17 @@ fn run(engine: Engine, script: &[u8]) {
         0,
         &mut sheet,
     );
-    print_answer(engine, answer, 6);
-    say(b"\n");
-    print_pairs(&table, answer[4]);
+    print_answer(out, engine, answer, 6)?;
+    say(out, b"\n")?;
+    print_pairs(out, &table, answer[4])
 }
 
-fn main() {
+fn main(rt: HostRuntime) -> io::Result<()> {
     let mut room = [0u8; 2049];
-    let length = read_script(&mut room);
-    say(b"engine end number steps offset pairs sheet\n");
-    run(Engine::Copy, &room[..length]);
-    run(Engine::Chain, &room[..length]);
-    run(Engine::Display, &room[..length]);
-    run(Engine::Search, &room[..length]);
+    let length = read_script(&rt, &mut room)?;
+    say(&rt, b"engine end number steps offset pairs sheet\n")?;
+    run(&rt, Engine::Copy, &room[..length])?;
+    run(&rt, Engine::Chain, &room[..length])?;
+    run(&rt, Engine::Display, &room[..length])?;
+    run(&rt, Engine::Search, &room[..length])
 }

@@ -1,9 +1,12 @@
-// Document 01's samples, and more, on each engine: the rows of the standard input. A row is a line: what it shows, a colon, and the script as
+// Samples of the language, and more, on each engine: the rows of the standard input. A row is a line: what it shows, a colon, and the script as
 // text. Capital letters are bytes of the script and numbers its fields, KN's value two of them, the low half first; commas are for the
 // eye. A number after another word is what the call is fed, and is kept under the word's last letter.
+#![tactic(auto)]
+
 ghost use Rattle.std.specs.Prelude.{◌≤◌};
 
-use program_engines::{Engine, call, print_answer, print_number, print_words, say};
+use program_engines::{Engine, call, print_answer, print_number, print_words, read_full, say};
+use std::io;
 
 // The words: d, n, g, name, places (of the table), the count, group and member of a pair in use, how far the list's number is off, and how many
 // words the list lacks.
@@ -62,20 +65,26 @@ fn field(script: &mut [u8], at: usize, number: u32) -> usize {
 }
 
 // One letter; what comes before the colon is printed.
-fn read(row: Row, letter: u8, script: &mut [u8], fed: &mut [u32; 128]) -> Row {
+fn read(
+    out: &impl Print,
+    row: Row,
+    letter: u8,
+    script: &mut [u8],
+    fed: &mut [u32; 128],
+) -> io::Result<Row> {
     let mut r = row;
     let key = r.key;
     if key == b':' {
-        say(&[letter]);
+        say(out, &[letter])?;
         if letter == b':' {
             r.key = 0;
         }
-        return r;
+        return Ok(r);
     }
     if b'0' <= letter && letter <= b'9' {
         r.number = ((r.number as u64 * 10 + (letter % 16) as u64) % 4294967296) as u32;
         r.open = true;
-        return r;
+        return Ok(r);
     }
     if r.open {
         if key == 0 {
@@ -85,7 +94,7 @@ fn read(row: Row, letter: u8, script: &mut [u8], fed: &mut [u32; 128]) -> Row {
         }
         r.number = 0;
         r.open = false;
-        return r;
+        return Ok(r);
     }
     if b'A' <= letter && letter <= b'Z' {
         r.bytes = put(script, r.bytes, letter);
@@ -93,22 +102,29 @@ fn read(row: Row, letter: u8, script: &mut [u8], fed: &mut [u32; 128]) -> Row {
     } else if b'a' <= letter && letter <= b'z' {
         r.key = letter;
     }
-    r
+    Ok(r)
 }
 
 // A line each: the whole answer, the sheet, the table, the list.
-fn report(engine: Engine, script: &[u8], fed: [u32; 128], table: &mut [i32], groups: &mut [i32]) {
+fn report(
+    out: &impl Print,
+    engine: Engine,
+    script: &[u8],
+    fed: [u32; 128],
+    table: &mut [i32],
+    groups: &mut [i32],
+) -> io::Result<()> {
     let mut sheet = [0i32; 8960];
     let count = (fed[COUNT] % 9) as usize;
     let name = (fed[NAME] % 65536) as u16;
     let answer = call(
         engine, script, fed[D], fed[N], fed[G], table, count, groups, name, &mut sheet,
     );
-    print_answer(engine, answer, 9);
-    say(b"\n");
-    print_words(&sheet, 0, answer[5] as usize);
-    print_words(table, 0, table.len());
-    print_words(groups, 0, groups.len());
+    print_answer(out, engine, answer, 9)?;
+    say(out, b"\n")?;
+    print_words(out, &sheet, 0, answer[5] as usize)?;
+    print_words(out, table, 0, table.len())?;
+    print_words(out, groups, 0, groups.len())
 }
 
 // The list of a table with one pair in use, or none.
@@ -132,7 +148,7 @@ fn lent(words: usize, lack: u32) -> usize
 }
 
 // An engine on a table and a list of its own.
-fn run(engine: Engine, script: &[u8], fed: [u32; 128]) {
+fn run(out: &impl Print, engine: Engine, script: &[u8], fed: [u32; 128]) -> io::Result<()> {
     let mut table = [0i32; 16];
     let mut groups = list_of(fed);
     table[0] = (fed[GROUP] % 2147483648) as i32;
@@ -140,28 +156,29 @@ fn run(engine: Engine, script: &[u8], fed: [u32; 128]) {
     let words = (fed[PLACES] % 9 * 2) as usize;
     let listed = lent(words, fed[LACK] % 16);
     report(
+        out,
         engine,
         script,
         fed,
         &mut table[..words],
         &mut groups[..listed],
-    );
+    )
 }
 
-fn run_all(script: &[u8], fed: [u32; 128]) {
+fn run_all(out: &impl Print, script: &[u8], fed: [u32; 128]) -> io::Result<()> {
     let mut verdict = [0u64; 2];
     enrol::enrol_check(script, &mut verdict);
-    say(b" check");
-    print_number(verdict[0]);
-    print_number(verdict[1]);
-    say(b"\n");
-    run(Engine::Copy, script, fed);
-    run(Engine::Chain, script, fed);
-    run(Engine::Display, script, fed);
-    run(Engine::Search, script, fed);
+    say(out, b" check")?;
+    print_number(out, verdict[0])?;
+    print_number(out, verdict[1])?;
+    say(out, b"\n")?;
+    run(out, Engine::Copy, script, fed)?;
+    run(out, Engine::Chain, script, fed)?;
+    run(out, Engine::Display, script, fed)?;
+    run(out, Engine::Search, script, fed)
 }
 
-fn all_rows(text: &[u8], script: &mut [u8]) {
+fn all_rows(out: &impl Print, text: &[u8], script: &mut [u8]) -> io::Result<()> {
     let mut fed = defaults();
     let mut row = Row {
         bytes: 0,
@@ -172,21 +189,22 @@ fn all_rows(text: &[u8], script: &mut [u8]) {
     let mut i = 0;
     while i < text.len() {
         let letter = text[i];
-        row = read(row, letter, script, &mut fed);
+        row = read(out, row, letter, script, &mut fed)?;
         let bytes = row.bytes;
         if letter == b'\n' && bytes <= script.len() {
-            run_all(&script[..bytes], fed);
+            run_all(out, &script[..bytes], fed)?;
             fed = defaults();
             row.bytes = 0;
             row.key = b':';
         }
         i += 1;
     }
+    Ok(())
 }
 
-fn main() {
-    let mut rows = io::large_buffer();
-    let n = io::read_full(0, &mut rows);
+fn main(rt: HostRuntime) -> io::Result<()> {
+    let mut rows = [0u8; 65536];
+    let n = read_full(&mut rt.reader(), &mut rows)?;
     let mut script = [0u8; 4096];
-    all_rows(&rows[..n], &mut script);
+    all_rows(&rt, &rows[..n], &mut script)
 }

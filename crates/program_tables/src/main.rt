@@ -1,7 +1,10 @@
 // The membership table on small cases. Each row of the table below is run by one function, which prints what it was given and what came
 // of it.
+#![tactic(auto)]
+
 ghost use Rattle.std.specs.Prelude.{◌<◌};
 
+use std::io;
 use table_pairs::{Change, Query};
 
 const TEST: i32 = 0;
@@ -69,8 +72,8 @@ const ROWS: [i32; 1078] = [
     0, 0, 0, 0, 0, TEST, 0, 0, 3, 2, 4, 1, 2, 3, 4, 0, 0, 0, 0, 1, 1, 0, 0, 0, 0, 0, 0,
 ];
 
-fn say(text: &[u8]) {
-    io::write_all(1, text);
+fn say(out: &impl Print, text: &[u8]) -> io::Result<()> {
+    out.write_all(text)
 }
 
 fn natural(number: i32) -> usize
@@ -89,68 +92,66 @@ fn largest_below_zero(number: i32) -> usize {
     natural(number)
 }
 
-fn number(label: &[u8], value: i32) {
-    say(label);
+fn number(out: &impl Print, label: &[u8], value: i32) -> io::Result<()> {
+    say(out, label)?;
     if value < 0 {
-        say(b"below 0");
-        return;
+        return say(out, b"below 0");
     }
-    io::print_decimal(1, natural(value) as u64);
+    let from_zero = natural(value);
+    print!(out; "{from_zero}")
 }
 
-fn words(table: &[i32]) {
-    say(b" [");
+fn words(out: &impl Print, table: &[i32]) -> io::Result<()> {
+    say(out, b" [")?;
     let mut i = 0;
     while i < table.len() {
-        number(b" ", table[i]);
+        number(out, b" ", table[i])?;
         i += 1;
     }
-    say(b" ]");
+    say(out, b" ]")
 }
 
 // Its name, of eight letters.
-fn operation(code: usize) {
+fn operation(out: &impl Print, code: usize) -> io::Result<()> {
     let names = *b"right?  AD      RM      QY      append  take out";
     if code < 6 {
         let start = 8 * code;
         let end = start + 8;
-        say(&names[start..end]);
+        return say(out, &names[start..end]);
     }
+    Ok(())
 }
 
-fn changed(outcome: Change) {
+fn stopped(out: &impl Print, cause: language::Stop) -> io::Result<()> {
+    let cause = language::stop_number(cause);
+    print!(out; ": cause {cause}")
+}
+
+fn changed(out: &impl Print, outcome: Change) -> io::Result<()> {
     match outcome {
-        Change::Done(count) => {
-            say(b": pairs ");
-            io::print_decimal(1, count as u64);
-        }
-        Change::Stopped(cause) => {
-            say(b": cause ");
-            io::print_decimal(1, language::stop_number(cause) as u64);
-        }
+        Change::Done(count) => print!(out; ": pairs {count}"),
+        Change::Stopped(cause) => stopped(out, cause),
     }
 }
 
-fn asked(outcome: Query) {
+fn asked(out: &impl Print, outcome: Query) -> io::Result<()> {
     match outcome {
-        Query::Value(value) => number(b": ", value),
-        Query::Stopped(cause) => {
-            say(b": cause ");
-            io::print_decimal(1, language::stop_number(cause) as u64);
-        }
+        Query::Value(value) => number(out, b": ", value),
+        Query::Stopped(cause) => stopped(out, cause),
     }
 }
 
-fn judged(right: bool) {
+fn judged(out: &impl Print, right: bool) -> io::Result<()> {
     if right {
-        say(b": right");
+        say(out, b": right")
     } else {
-        say(b": not right");
+        say(out, b": not right")
     }
 }
 
 // AD and RM ask for a right table and its list.
 fn change(
+    out: &impl Print,
     code: i32,
     group: i32,
     member: i32,
@@ -158,32 +159,40 @@ fn change(
     count: usize,
     table: &mut [i32],
     groups: &mut [i32],
-) {
+) -> io::Result<()> {
     if groups.len() < 2 * (table.len() / 2) {
-        return;
+        return Ok(());
     }
     if 65535 < limit {
-        return;
+        return Ok(());
     }
     if !table_test::table_and_list_right(table, count, limit, groups) {
-        judged(false);
-        return;
+        return judged(out, false);
     }
     if code == AD {
-        changed(table_pairs::add_pair(table, groups, count, limit, group, member));
-        return;
+        let outcome = table_pairs::add_pair(table, groups, count, limit, group, member);
+        return changed(out, outcome);
     }
-    changed(table_pairs::remove_pair(table, groups, count, group, member));
+    let outcome = table_pairs::remove_pair(table, groups, count, group, member);
+    changed(out, outcome)
 }
 
-fn test(limit: u32, count: usize, table: &[i32], groups: &[i32]) {
+fn test(
+    out: &impl Print,
+    limit: u32,
+    count: usize,
+    table: &[i32],
+    groups: &[i32],
+) -> io::Result<()> {
     if groups.len() < 2 * (table.len() / 2) {
-        return;
+        return Ok(());
     }
-    judged(table_test::table_and_list_right(table, count, limit, groups));
+    let right = table_test::table_and_list_right(table, count, limit, groups);
+    judged(out, right)
 }
 
 fn run(
+    out: &impl Print,
     code: i32,
     group: i32,
     member: i32,
@@ -191,28 +200,28 @@ fn run(
     count: usize,
     table: &mut [i32],
     groups: &mut [i32],
-) {
+) -> io::Result<()> {
     if code == TEST {
-        test(limit, count, table, groups);
-        return;
+        return test(out, limit, count, table, groups);
     }
     if code == QY {
-        asked(table_pairs::query_pair(table, count, group, member));
-        return;
+        let outcome = table_pairs::query_pair(table, count, group, member);
+        return asked(out, outcome);
     }
     if code == APPEND {
         table_pairs::append(table, count, group, member);
-        return;
+        return Ok(());
     }
     if code == TAKE_OUT {
         table_moves::take_out(table, count, natural(group));
-        return;
+        return Ok(());
     }
-    change(code, group, member, limit, count, table, groups);
+    change(out, code, group, member, limit, count, table, groups)
 }
 
 // The words before and after.
 fn report(
+    out: &impl Print,
     code: i32,
     group: i32,
     member: i32,
@@ -220,13 +229,13 @@ fn report(
     count: usize,
     table: &mut [i32],
     groups: &mut [i32],
-) {
-    words(table);
-    words(groups);
-    run(code, group, member, limit, count, table, groups);
-    words(table);
-    words(groups);
-    say(b"\n");
+) -> io::Result<()> {
+    words(out, table)?;
+    words(out, groups)?;
+    run(out, code, group, member, limit, count, table, groups)?;
+    words(out, table)?;
+    words(out, groups)?;
+    say(out, b"\n")
 }
 
 fn field(row: &[i32], i: usize) -> i32 {
@@ -236,27 +245,28 @@ fn field(row: &[i32], i: usize) -> i32 {
     0
 }
 
-fn given(row: &[i32]) {
-    operation(natural(field(row, 0)));
-    number(b" ", field(row, 1));
-    number(b" ", field(row, 2));
-    number(b", G ", field(row, 3));
-    number(b", pairs ", field(row, 4));
+fn given(out: &impl Print, row: &[i32]) -> io::Result<()> {
+    operation(out, natural(field(row, 0)))?;
+    number(out, b" ", field(row, 1))?;
+    number(out, b" ", field(row, 2))?;
+    number(out, b", G ", field(row, 3))?;
+    number(out, b", pairs ", field(row, 4))
 }
 
-fn sample(row: &[i32], words: &mut [i32], list: &mut [i32]) {
+fn sample(out: &impl Print, row: &[i32], words: &mut [i32], list: &mut [i32]) -> io::Result<()> {
     let end = natural(field(row, 5));
     if words.len() < end {
-        return;
+        return Ok(());
     }
     if list.len() < end {
-        return;
+        return Ok(());
     }
-    given(row);
+    given(out, row)?;
     let limit = natural(field(row, 3)) as u32;
     let count = largest_below_zero(field(row, 4));
     let needed = end / 2 * 2;
     report(
+        out,
         field(row, 0),
         field(row, 1),
         field(row, 2),
@@ -264,7 +274,7 @@ fn sample(row: &[i32], words: &mut [i32], list: &mut [i32]) {
         count,
         &mut words[..end],
         &mut list[..needed],
-    );
+    )
 }
 
 // Eight numbers of a row, from one on.
@@ -280,18 +290,19 @@ fn part(rows: &[i32], from: usize) -> [i32; 8]
     words
 }
 
-fn all_samples(rows: &[i32]) {
+fn all_samples(out: &impl Print, rows: &[i32]) -> io::Result<()> {
     let mut at = 0;
     while 22 <= rows.len() - at {
         let end = at + 22;
         let mut table = part(&rows[at..end], 6);
         let mut list = part(&rows[at..end], 14);
-        sample(&rows[at..end], &mut table, &mut list);
+        sample(out, &rows[at..end], &mut table, &mut list)?;
         at = end;
     }
+    Ok(())
 }
 
-fn main() {
+fn main(rt: HostRuntime) -> io::Result<()> {
     let rows = ROWS;
-    all_samples(&rows);
+    all_samples(&rt, &rows)
 }
