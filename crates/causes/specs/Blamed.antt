@@ -17,7 +17,7 @@ use Rattle.laws.specs.Tests.{split, never}
 use Rattle.laws.specs.Each.{Each}
 use Rattle.laws.specs.Distinct.{Distinct, fresh-distinct}
 use Rattle.grammar.specs.Rules.{Name, FormedFormals, FormedDecl, FormedDecls, FormedStmt, FormedStmts}
-use Rattle.grammar.specs.Reading.{GotFormals, GotDecl, GotDecls, GotStmt, ReadsBlocks, read-formals, read-decl, read-decls, read-stmt, read-blocks}
+use Rattle.grammar.proofs.Reading.{GotFormals, GotDecl, GotDecls, GotStmt, ReadsBlocks, read-formals, read-decl, read-decls, read-stmt, read-blocks}
 use Rattle.causes.specs.Places.{Place, block-due, formal-due, decl-due, stmt-due, opens, marks_at, names, Opened, Heads, LeadsUp, at-start, at-declaration, at-statement, at-formal, at_body}
 use Rattle.causes.specs.Faults.{no_arguments, kind-range, index-range, operation-range, arguments-range, deep-block, many-formals, many-names, formal-twice, variable-twice, label-twice, procedure-twice, past_end, out_of_range, too-deep, too_many, twice}
 use Rattle.causes.specs.Blaming.{Blames, table, yields-any, blames-bind, blames-part, blames-require, blames-fields, blames-kind, blames-operation}

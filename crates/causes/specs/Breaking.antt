@@ -15,7 +15,7 @@ use Rattle.language.specs.declared.Refusal.{Refusal}
 use Rattle.language.specs.declared.Refusal.TheVariants.{PastTheEnd, MarkMisplaced, FieldRange, NestingDepth, TooManyNames, NameTwice}
 use Rattle.laws.specs.Tests.{none≢some, some_inj}
 use Rattle.laws.specs.Readers.{bind-refuse, passes, fails, filled}
-use Rattle.grammar.specs.Writing.{row, marked}
+use Rattle.grammar.proofs.Writing.{row, marked}
 use Rattle.causes.specs.Places.{Place, block-due, formal-due, decl-due, stmt-due, marks_at}
 use Rattle.causes.specs.Faults.{PastEnd, no-mark, no_fields, no_arguments, Misplaced, no_row, OutOfRange, kind-range, index-range, operation-range, arguments-range, TooDeep, deep-block, TooMany, many-formals, many-names, Twice, formal-twice, variable-twice, label-twice, procedure-twice, Broken, past_end, misplaced, out_of_range, too-deep, too_many, twice}
 use Rattle.causes.specs.Blaming.{table}

@@ -9,7 +9,7 @@ use Rattle.language.specs.declared.Refusal.{Refusal}
 use Rattle.language.specs.declared.End.TheVariants.{Refused}
 use Rattle.laws.specs.Order.{AllHold, FailsFirst}
 use Rattle.grammar.specs.Rules.{Bytes, Keeps}
-use Rattle.grammar.specs.Exact.{accepts-exactly}
+use Rattle.grammar.proofs.Exact.{accepts-exactly}
 use Rattle.runs.specs.Admission.{Due, before-check, by-check, after_check}
 use Rattle.runs.specs.Calls.{due-reply, refused-due}
 use Rattle.causes.specs.Faults.{Fault}

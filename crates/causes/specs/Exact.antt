@@ -18,8 +18,8 @@ use Rattle.laws.specs.Tests.{split, never}
 use Rattle.grammar.specs.Rules.{Bytes, FormedBlock}
 use Rattle.grammar.specs.Readers.{Yields}
 use Rattle.grammar.specs.Words.{fields-are-names}
-use Rattle.grammar.specs.Reading.{GotBlock, read-program}
-use Rattle.grammar.specs.Writing.{row, marked, within, within-is, write-block}
+use Rattle.grammar.proofs.Reading.{GotBlock, read-program}
+use Rattle.grammar.proofs.Writing.{row, marked, within, within-is, write-block}
 use Rattle.causes.specs.Sites.{Sees}
 use Rattle.causes.specs.Faults.{Followed, Used, LengthWrong, LengthFits, Misuse, Fault, of_length, of-record, of_end, of-use}
 use Rattle.causes.specs.Blaming.{Blames}

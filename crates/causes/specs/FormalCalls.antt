@@ -13,7 +13,7 @@ use Rattle.language.specs.declared.Stop.TheVariants.{ArgumentsDiffer}
 use Rattle.language.specs.declared.Refusal.{Refusal}
 use Rattle.language.specs.declared.End.TheVariants.{Stopped, Refused}
 use Rattle.grammar.specs.Rules.{Bytes, ScopedAction, Keeps}
-use Rattle.grammar.specs.Exact.{accepts-exactly}
+use Rattle.grammar.proofs.Exact.{accepts-exactly}
 use Rattle.runs.specs.Admission.{Admitted}
 use Rattle.runs.specs.Reasons.{clash}
 use Rattle.runs.specs.Calls.{reply-cases}

@@ -19,7 +19,7 @@ use Rattle.laws.specs.Distinct.{Fresh, distinct-fresh}
 use Rattle.laws.specs.Readers.{bind-read, bind-refuse, passes}
 use Rattle.grammar.specs.Rules.{FormedFormals, FormedDecls, FormedStmts}
 use Rattle.grammar.specs.Readers.{bind_assoc}
-use Rattle.grammar.specs.Writing.{row, marked, kind-read, new, write-formals, one-decl, one-stmt, write-decl, write-stmt, write-decls}
+use Rattle.grammar.proofs.Writing.{row, marked, kind-read, new, write-formals, one-decl, one-stmt, write-decl, write-stmt, write-decls}
 use Rattle.causes.specs.Places.{Place, block-due, formal-due, decl-due, stmt-due, opens, names, Opened, Heads, LeadsUp, at-start, at-declaration, at-statement, at-formal, at_body}
 use Rattle.causes.specs.Growing.{Alike, alike-middle, alike_end}
 

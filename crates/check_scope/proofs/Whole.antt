@@ -14,7 +14,7 @@ use Rattle.check_records.specs.declared.Progress.{Progress}
 use Rattle.grammar.specs.Rules.{Bytes, FormedFormals}
 use Rattle.grammar.specs.Readers.{Yields}
 use Rattle.grammar.specs.Words.{fields-are-names}
-use Rattle.grammar.specs.Reading.{GotBlock, read-program}
+use Rattle.grammar.proofs.Reading.{GotBlock, read-program}
 use Rattle.laws.specs.Fields.{FieldsStand, fields-first, fields-stand}
 use Rattle.check_uses.specs.Meanings.{scope_of, verdict_of}
 use Rattle.check_scope.specs.Walking.{progress_of, settled_of, Judged, BlockHere}

@@ -10,7 +10,7 @@ use Rattle.language.specs.Machine.{Limits}
 use Rattle.language.specs.Call.{Engine, Fed, limits_of}
 use Rattle.laws.specs.Lists.{by-elements}
 use Rattle.grammar.specs.Rules.{Bytes, Is, ScopedAction, Keeps}
-use Rattle.grammar.specs.Exact.{accepts-exactly}
+use Rattle.grammar.proofs.Exact.{accepts-exactly}
 use Rattle.runs.specs.Admission.{Admitted, limits-fit, table-right, activations-fit}
 use Rattle.frames.specs.Frame.{Frame, Stack, acted, designates, map_action, stepped, frame_start, frame_step, frame_run, frame_run_of}
 use Rattle.frames.specs.Running.{After, run-keeps}

@@ -11,7 +11,7 @@ use Rattle.language.specs.Basics.{last?}
 use Rattle.language.specs.Text.{Formal, Block, Stmt, BK, PR, block_stmts}
 use Rattle.language.specs.Encoding.{encode}
 use Rattle.grammar.specs.Rules.{Keeps}
-use Rattle.grammar.specs.Standing.{BlockStands, StmtStands, program-stands, decl-stands, stmt-stands, inner-stands, body-stands}
+use Rattle.grammar.proofs.Standing.{BlockStands, StmtStands, program-stands, decl-stands, stmt-stands, inner-stands, body-stands}
 use Rattle.frames.specs.Frame.{Frame, numbered, frame_stmt}
 use Rattle.frames.specs.Numbered.{last-numbered}
 use Rattle.coordinates.specs.Enclosure.{Enclosing, Enclosure, StandsIn, as-block, as-body, whole, Encloses}

@@ -8,7 +8,7 @@ use lib.ListN.{length, replicate, length-replicate}
 use Rattle.language.specs.Text.{Block}
 use Rattle.language.specs.Call.{Fed, copying, holds_at_least, area_fits}
 use Rattle.grammar.specs.Rules.{Bytes}
-use Rattle.grammar.specs.Exact.{accepts-exactly}
+use Rattle.grammar.proofs.Exact.{accepts-exactly}
 use Rattle.runs.specs.Admission.{Admitted, area-fits}
 use Rattle.resolved.specs.Resolved.{resolved_of, Covers}
 use Rattle.copy_fields.specs.Naming.{NamesStand}

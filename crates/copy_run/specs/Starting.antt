@@ -18,7 +18,7 @@ use Rattle.laws.specs.Distinct.{Distinct}
 use Rattle.grammar.specs.Rules.{Keeps}
 use Rattle.grammar.specs.Formed.{block-once, block-few}
 use Rattle.grammar.specs.Words.{length-bytes}
-use Rattle.grammar.specs.Standing.{program-stands}
+use Rattle.grammar.proofs.Standing.{program-stands}
 use Rattle.frames.specs.Frame.{Frame, Stack, new_frame, frame_start, numbered}
 use Rattle.frames.specs.Related.{reads_in, reads_at, own_of, Twin, Related, twin-at}
 use Rattle.frames.specs.Runs.{start-related}

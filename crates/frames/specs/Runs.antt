@@ -22,7 +22,7 @@ use Rattle.laws.specs.Lists.{by-elements, some-last, last_none, last-split, get_
 use Rattle.laws.specs.Renaming.{block_at-renamed, rename-nothing}
 use Rattle.laws.specs.Rising.{Rising}
 use Rattle.grammar.specs.Rules.{Bytes, Keeps}
-use Rattle.grammar.specs.Exact.{accepts-exactly}
+use Rattle.grammar.proofs.Exact.{accepts-exactly}
 use Rattle.runs.specs.Running.{copied, run-runs}
 use Rattle.instances.specs.Invariant.{Invariant}
 use Rattle.instances.specs.Accepted.{rules-closed}

@@ -4,8 +4,3 @@ pub mod Formed
 pub mod Scoped
 pub mod Readers
 pub mod Words
-pub mod Reading
-pub mod Writing
-pub mod Accepting
-pub mod Exact
-pub mod Standing

@@ -11,7 +11,7 @@ use Rattle.laws.specs.Each.{Each}
 use Rattle.laws.specs.Lookup.{AllBelow, lookup-here, lookup-nil, lookup-there}
 use Rattle.grammar.specs.Rules.{Bytes, Keeps, Visible, Is, ScopedAction, FormedBlock, FormedDecl, FormedStmt, FormedDecls, FormedStmts, ScopedBlock, ScopedDecl, ScopedStmt, ScopedDecls, ScopedStmts}
 use Rattle.grammar.specs.Formed.{formal-names, decl-names}
-use Rattle.grammar.specs.Exact.{accepts-exactly}
+use Rattle.grammar.proofs.Exact.{accepts-exactly}
 use Rattle.instances.specs.Statement.{uses_of}
 use Rattle.instances.specs.Closed.{Kinds, decl_kinds, own_kinds, LabelIn, LabelsIn, Used, AllUsed, InBlock, InDecl, InStmt, InDecls, InStmts}
 

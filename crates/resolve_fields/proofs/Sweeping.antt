@@ -12,8 +12,8 @@ use Rattle.language.specs.Check.{accepted, check}
 use Rattle.laws.specs.Fields.{FieldsStand, field-inside, fields-first, fields-after}
 use Rattle.grammar.specs.Rules.{Bytes, Keeps}
 use Rattle.grammar.specs.Words.{length-bytes}
-use Rattle.grammar.specs.Accepting.{accepted-keeps}
-use Rattle.grammar.specs.Standing.{program-stands}
+use Rattle.grammar.proofs.Accepting.{accepted-keeps}
+use Rattle.grammar.proofs.Standing.{program-stands}
 use Rattle.coordinates.specs.Enclosure.{Enclosure}
 use Rattle.resolved.specs.Resolved.{resolved_of, Covers}
 use Rattle.resolved.specs.Lengths.{covers-first, covers-second, covers-front}

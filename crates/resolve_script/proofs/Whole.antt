@@ -10,8 +10,8 @@ use Rattle.language.specs.Encoding.{block_fields, formals_fields, fields_of, enc
 use Rattle.language.specs.Check.{accepted, check}
 use Rattle.grammar.specs.Rules.{Bytes, Keeps, FormedFormals}
 use Rattle.grammar.specs.Words.{fields-are-names, length-bytes}
-use Rattle.grammar.specs.Reading.{GotBlock, read-program}
-use Rattle.grammar.specs.Accepting.{accepted-read, accepted-keeps}
+use Rattle.grammar.proofs.Reading.{GotBlock, read-program}
+use Rattle.grammar.proofs.Accepting.{accepted-read, accepted-keeps}
 use Rattle.resolved.specs.Resolved.{visible_words, resolved_formals, resolved_of}
 use Rattle.resolved.specs.Lengths.{block-length}
 use Rattle.laws.specs.Fields.{FieldsStand, fields-first, fields-stand}

@@ -10,7 +10,7 @@ use Rattle.language.specs.Check.{accepted, check}
 use Rattle.language.specs.declared.Refusal.{Refusal}
 use Rattle.language.specs.declared.Refusal.TheVariants.{TooManyNames}
 use Rattle.grammar.specs.Readers.{Yields, yields-bind, yields-require}
-use Rattle.grammar.specs.Accepting.{accepted-read}
+use Rattle.grammar.proofs.Accepting.{accepted-read}
 use Rattle.runs.specs.Names.{FitsBlock, FitsDecl, FitsStmt, FitsDecls, FitsStmts}
 
 abbrev pub Gives : {A : Type 0} → (A → Type 0) → Reader A → Type 0

@@ -11,7 +11,8 @@ use mir.Facts.{to_z-of_z}
 use Rattle.language.specs.Table.{Table, Effect, size, at_least_one, holds, add, added}
 use Rattle.laws.specs.Tests.{both}
 use Rattle.table_laws.specs.Listing.{Beside}
-use Rattle.table_laws.specs.ByList.{added_by_list, added-beside}
+use Rattle.table_laws.specs.ByList.{added_by_list}
+use Rattle.table_laws.proofs.ByList.{added-beside}
 use Rattle.table_pairs.specs.Outcomes.{table_of, change_of, count_after, words_after}
 use Rattle.table_pairs.proofs.Statements.{fits_read, added-below, added-present, added-crowded, added_full, added_new}
 use Rattle.table_pairs.proofs.Listed.{Said, Raisable, pairs-fit, places, listed, number_size, raise-ready, list-raised}

@@ -13,7 +13,8 @@ use Rattle.laws.specs.Tests.{both}
 use Rattle.table_laws.specs.Pairs.{group-none}
 use Rattle.table_laws.specs.Changes.{remove-present}
 use Rattle.table_laws.specs.Listing.{Beside}
-use Rattle.table_laws.specs.ByList.{removed_by_list, removed-beside}
+use Rattle.table_laws.specs.ByList.{removed_by_list}
+use Rattle.table_laws.proofs.ByList.{removed-beside}
 use Rattle.table_search.specs.Places.{placed}
 use Rattle.table_search.specs.declared.PairPlace.{PairPlace}
 use Rattle.table_search.proofs.Pairs.{find-clamped, find-below}

@@ -12,8 +12,8 @@ use Rattle.grammar.specs.Rules.{Bytes, Keeps}
 use Rattle.grammar.specs.Scoped.{block-scoped}
 use Rattle.grammar.specs.Readers.{Yields}
 use Rattle.grammar.specs.Words.{fields-of-bytes, bytes-of-fields, fields-are-names, length-bytes}
-use Rattle.grammar.specs.Reading.{GotBlock, read-program}
-use Rattle.grammar.specs.Writing.{write-program}
+use Rattle.grammar.proofs.Reading.{GotBlock, read-program}
+use Rattle.grammar.proofs.Writing.{write-program}
 
 not-accepted : {A : Type 0} (t : Block) (c : Refusal) (o : ℕ) → refused c o ≡ accepted t → A
 not-accepted t c o e = let z : ◌≡◌ {A = ℕ} 0 1 = cc in absurd (omega arith)

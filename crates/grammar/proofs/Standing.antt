@@ -18,7 +18,7 @@ use Rattle.laws.specs.RenamedFields.{decls_fields-renamed}
 use Rattle.laws.specs.Fields.{field_at, FieldsStand, fields-first, fields-after, fields-third, fields-past-head, fields-stand}
 use Rattle.grammar.specs.Rules.{Bytes, FormedBlock, FormedDecl, FormedStmt, FormedDecls, FormedStmts, Keeps}
 use Rattle.grammar.specs.Words.{fields-of-bytes, length-bytes}
-use Rattle.grammar.specs.Exact.{accepts-exactly}
+use Rattle.grammar.proofs.Exact.{accepts-exactly}
 
 -- the offset of a declaration
 unfoldable pub decl_at : Decl → ℕ

@@ -7,7 +7,7 @@ use Rattle.language.specs.Text.{Block}
 use Rattle.language.specs.Encoding.{encode}
 use Rattle.language.specs.Check.{accepted, check}
 use Rattle.grammar.specs.Rules.{Bytes, Keeps}
-use Rattle.grammar.specs.Accepting.{accepted-keeps, keeps-accepted}
+use Rattle.grammar.proofs.Accepting.{accepted-keeps, keeps-accepted}
 
 pub accepts-exactly : (bs : List ℕ) → Bytes bs → (t : Block) → (check bs ≡ accepted t) ↔ ((bs ≡ encode t) × Keeps t)
 accepts-exactly bs h t = (accepted-keeps bs h t, λ k. rw k.0 (keeps-accepted t k.1))
