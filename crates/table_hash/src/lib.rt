@@ -1,4 +1,6 @@
 // The hash of a pair's key, the whole pair or its group alone, and what is taken from it.
+#![tactic(auto)]
+
 ghost use Rattle.std.specs.Prelude.{◌≡◌, ◌+◌, ◌*◌, ◌≤◌, ◌<◌, length};
 ghost use Rattle.table_hash.specs.Hashes.{weight_of, combine, mix, hash_at, class_of, bucket, mask_of, mark_of};
 

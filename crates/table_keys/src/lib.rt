@@ -1,4 +1,6 @@
 // Pairs with one key: the whole pair, or its group alone.
+#![tactic(auto)]
+
 ghost use Rattle.std.specs.Prelude.{◌≡◌, ◌+◌, ◌*◌, ◌<◌, length};
 ghost use Rattle.table_keys.specs.Keys.{same_at, rank_at};
 

@@ -1,4 +1,6 @@
 // AD, RM and QY. AD and RM keep the list of groups beside the table as the table has it.
+#![tactic(auto)]
+
 ghost use Rattle.std.specs.Prelude.{◌≡◌, ℕ, ◌*◌, ◌≤◌, length, set};
 ghost use Rattle.language.specs.Table.{size, holds, add, added, removed, queried};
 ghost use Rattle.table_laws.specs.Listing.{HasList, KeepsList};

@@ -33,10 +33,10 @@ loop-again c =
     let ws = s.args.table.now in (
       omega arith,
       rw (add-one l.loop-j.j) (⊎_elim
-          (λ w. w.1 ∙ add-one l.loop-j.found ∙ ap suc l.loop-j.invariant.1
-          ∙ sym (alike-hit s.args.whole (group_at s.args.i ws) (member_at s.args.i ws) l.loop-j.j ws (sym k.same_key.ensures ∙ w.0.taken)))
-          (λ w. w.1 ∙ l.loop-j.invariant.1
-          ∙ sym (alike-miss s.args.whole (group_at s.args.i ws) (member_at s.args.i ws) l.loop-j.j ws (sym k.same_key.ensures ∙ w.0.left)))
+          (λ w. w.found-is ∙ add-one l.loop-j.found ∙ ap suc l.loop-j.invariant.1
+          ∙ sym (alike-hit s.args.whole (group_at s.args.i ws) (member_at s.args.i ws) l.loop-j.j ws (sym k.same_key.ensures ∙ w.if-same_key.true)))
+          (λ w. w.found-is ∙ l.loop-j.invariant.1
+          ∙ sym (alike-miss s.args.whole (group_at s.args.i ws) (member_at s.args.i ws) l.loop-j.j ws (sym k.same_key.ensures ∙ w.if-same_key.false)))
           c.if-same_key.branch-raw),
     )
 

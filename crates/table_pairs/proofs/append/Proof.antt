@@ -19,14 +19,14 @@ unfolding add
 returns c =
     let w = first_of c in
     let s = w.before.before.before in
-    rw (w.write_word.ensures, to_z-of_z s.fits.group, to_z-of_z s.fits.member, add-one) at c.before.write_word-then-count-table.ensures
+    rw (w.write_word.ensures, to_z-of_z s.ranges.group, to_z-of_z s.ranges.member, add-one) at c.before.write_word-then-count-table.ensures
 
 returns-2 : tie.Need-returns-else-count-table
 unfolding add
 returns-2 c =
     let s = c.before.args in
-    sym (set_out (set s.table-1.now (2 * s.count) s.group) (suc (2 * s.count)) s.member (simp length-set (omega arith)) ∙
-    set_out s.table-1.now (2 * s.count) s.group (omega arith))
+    sym (set_out (set s.table.now (2 * s.count) s.group) (suc (2 * s.count)) s.member (simp length-set (omega arith)) ∙
+    set_out s.table.now (2 * s.count) s.group (omega arith))
 
 pub append_spec : {M : Type 1} → statement M
 append_spec =

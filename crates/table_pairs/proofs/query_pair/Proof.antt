@@ -2,7 +2,6 @@
 use mathlib.Core.Path.{◌≡◌, sym, ap}
 use mathlib.Core.Bool.{Bool, true, ◌&&◌}
 use borrow.Author.Rules.{rules}
-use borrow.Author.Tests.{not-true, not-false}
 use Rattle.language.specs.Table.{Table, at_least_one, holds}
 use Rattle.table_pairs.specs.Outcomes.{table_of, value_of}
 use Rattle.table_pairs.proofs.Statements.{fits_read, held-read, queried-below, queried-yes, queried-no}
@@ -19,14 +18,14 @@ abbrev start_of : tie.After-present → tie.Start
 start_of c = c.before.before.before
 
 fit : (c : tie.After-present) → (at_least_one (start_of c).args.group && at_least_one (start_of c).args.member) ≡ true
-fit c = numbers c.before.before (not-false _ c.before.if-not-numbers_fit.false)
+fit c = numbers c.before.before c.before.if-not-numbers_fit.false
 
 known : (c : tie.After-present) {v : Bool} → c.present.result ≡ v → let s = start_of c in holds s.args.group s.args.member (lent s) ≡ v
-known c q = let s = start_of c in held-read s.fits.group s.fits.member s.args.count s.args.table.now c.present.ensures q
+known c q = let s = start_of c in held-read s.ranges.group s.ranges.member s.args.count s.args.table.now c.present.ensures q
 
 returns : tie.Need-returns-then-not-numbers_fit
 unfolding value_of
-returns c = sym (ap value_of (queried-below _ _ (lent c.before.before) (numbers c.before (not-true _ c.if-not-numbers_fit.true))))
+returns c = sym (ap value_of (queried-below _ _ (lent c.before.before) (numbers c.before c.if-not-numbers_fit.true)))
 
 returns-2 : tie.Need-returns-then-present
 unfolding value_of

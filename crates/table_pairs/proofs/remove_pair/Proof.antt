@@ -5,7 +5,6 @@ use mathlib.Core.Bool.{Bool, true, ◌&&◌}
 use mathlib.Core.Option.{some}
 use native.Mathlib.Omega.{arith}
 use borrow.Author.Rules.{rules}
-use borrow.Author.Tests.{not-true, not-false}
 use lib.ListN.{length}
 use mir.Facts.{to_z-of_z}
 use Rattle.language.specs.Table.{Table, Effect, find, is_some, holds, size, at_least_one, take_out, removed}
@@ -26,47 +25,47 @@ use Rattle.table_pairs.proofs.remove_pair.Statement.{statement}
 use Rattle.table_pairs.proofs.remove_pair.Tie as tie
 
 abbrev lent : tie.Start → Table
-lent s = table_of s.args.table-1.now s.args.count
+lent s = table_of s.args.table.now s.args.count
 
 -- what it comes to by the list
-by-list : (s : tie.Start) {e : Effect} → removed s.args.group s.args.member (lent s) ≡ e → change_of e ≡ change_of (removed_by_list s.args.group s.args.member (lent s) s.args.groups-1.now)
+by-list : (s : tie.Start) {e : Effect} → removed s.args.group s.args.member (lent s) ≡ e → change_of e ≡ change_of (removed_by_list s.args.group s.args.member (lent s) s.args.groups.now)
 by-list s q = sym (ap change_of (removed-beside s.requires.1.1 s.args.group s.args.member ∙ q))
 
 numbers : (c : tie.After-numbers_fit) {v : Bool} → c.numbers_fit.result ≡ v → (at_least_one c.before.args.group && at_least_one c.before.args.member) ≡ v
 numbers c q = fits_read c.before.ranges.group c.before.ranges.member c.numbers_fit.ensures q
 
 fit : (c : tie.Else-not-numbers_fit) → let s = c.before.before in (at_least_one s.args.group && at_least_one s.args.member) ≡ true
-fit c = numbers c.before (not-false _ c.if-not-numbers_fit.false)
+fit c = numbers c.before c.if-not-numbers_fit.false
 
 one : (c : tie.Else-not-numbers_fit) → at_least_one c.before.before.args.group ≡ true
 one c = (both _ _ (fit c)).0
 
 abbrev test_of : tie.After-find_group-found → tie.Else-not-numbers_fit
-test_of c = c.before.before
+test_of c = c.before
 
 abbrev start_of : tie.After-find_group-found → tie.Start
 start_of c = (test_of c).before.before
 
-said : (c : tie.After-find_group-found) → let s = start_of c in Said (lent s) s.args.groups-1.now s.args.group c.find_group-found.result
+said : (c : tie.After-find_group-found) → let s = start_of c in Said (lent s) s.args.groups.now s.args.group c.find_group-found.result
 said c = rw (to_z-of_z (start_of c).ranges.group) at c.find_group-found.ensures
 
 find_group-requires : tie.Need-find_group-found-requires
 find_group-requires c κs =
-    let s = c.before.before.before in
-    ((places s.requires.1.1, (_, listed s.requires.1.1)), rw (to_z-of_z s.ranges.group) (one c.before))
+    let s = c.before.before in
+    ((places s.requires.1.1, (_, listed s.requires.1.1)), rw (to_z-of_z s.ranges.group) (one c))
 
 abbrev find_of : tie.After-place_of-there → tie.After-find_group-found
-find_of c = c.before.before.before
+find_of c = c.before.before
 
-placed-is : (c : tie.After-place_of-there) {p : PairPlace} → c.place_of-there.result ≡ p → let s = start_of (find_of c) in placed (find s.args.group s.args.member s.args.count s.args.table-1.now) ≡ p
-placed-is c q = let s = start_of (find_of c) in place_read s.fits.group s.fits.member s.args.count s.args.table-1.now c.place_of-there.ensures q
+placed-is : (c : tie.After-place_of-there) {p : PairPlace} → c.place_of-there.result ≡ p → let s = start_of (find_of c) in placed (find s.args.group s.args.member s.args.count s.args.table.now) ≡ p
+placed-is c q = let s = start_of (find_of c) in place_read s.ranges.group s.ranges.member s.args.count s.args.table.now c.place_of-there.ensures q
 
 returns : tie.Need-returns-then-not-numbers_fit
 unfolding change_of words_after count_after
 returns c =
     let s = c.before.before in
-    let e = removed-below s.args.group s.args.member (lent s) (numbers c.before (not-true _ c.if-not-numbers_fit.true)) in
-    (sym (ap change_of e), (sym (ap (words_after s.args.table-1.now) e), (λ limit past b. b, by-list s e)))
+    let e = removed-below s.args.group s.args.member (lent s) (numbers c.before c.if-not-numbers_fit.true) in
+    (sym (ap change_of e), (sym (ap (words_after s.args.table.now) e), (λ limit past b. b, by-list s e)))
 
 returns-2 : tie.Need-returns-then-number-eq0
 unfolding change_of words_after count_after size
@@ -75,52 +74,51 @@ returns-2 c =
     let s = start_of k in
     let b = s.requires.1.1 in
     let n = number_size b s.args.group (one (test_of k)) k.find_group-found.result (said k) in
-    let f = group-none s.args.group s.args.member s.args.count s.args.table-1.now (pairs-fit b) (omega (arith, n, c.if-number-eq0.true)) in
+    let f = group-none s.args.group s.args.member s.args.count s.args.table.now (pairs-fit b) (omega (arith, n, c.if-number-eq0.true)) in
     let e = removed-absent s.args.group s.args.member (lent s) (fit (test_of k)) f in
-    (sym (ap change_of e), (sym (ap (words_after s.args.table-1.now) e), (λ limit past b. b, by-list s e)))
+    (sym (ap change_of e), (sym (ap (words_after s.args.table.now) e), (λ limit past b. b, by-list s e)))
 
 returns-3 : tie.Need-returns-in-Absent
 unfolding change_of words_after count_after
 returns-3 c =
-    let p = c.before.before in
+    let p = c.before in
     let k = find_of p in
     let s = start_of k in
-    let e = removed-absent s.args.group s.args.member (lent s) (fit (test_of k)) (placed-absent _ (placed-is p c.enum_told-1.given.1)) in
-    (sym (ap change_of e), (sym (ap (words_after s.args.table-1.now) e), (λ limit past b. b, by-list s e)))
+    let e = removed-absent s.args.group s.args.member (lent s) (fit (test_of k)) (placed-absent _ (placed-is p c.in-Absent.is)) in
+    (sym (ap change_of e), (sym (ap (words_after s.args.table.now) e), (λ limit past b. b, by-list s e)))
 
-abbrev there_of : tie.After-table-1 → tie.In-At-2
-there_of c = c.before.before.before.before
+abbrev there_of : tie.After-table-1 → tie.In-At
+there_of c = c.before.before.before
 
 abbrev place_of : tie.After-table-1 → ℕ
-place_of c = (there_of c).there-1.given.0.0
+place_of c = (there_of c).in-At.place
 
 abbrev last_of : tie.After-table-1 → tie.After-find_group-found
-last_of c = find_of (there_of c).before.before
+last_of c = find_of (there_of c).before
 
-stands : (c : tie.After-table-1) → let s = start_of (last_of c) in find s.args.group s.args.member s.args.count s.args.table-1.now ≡ some (place_of c)
-stands c = let f = there_of c in placed_at _ _ (placed-is f.before.before f.there-1.given.1)
+stands : (c : tie.After-table-1) → let s = start_of (last_of c) in find s.args.group s.args.member s.args.count s.args.table.now ≡ some (place_of c)
+stands c = let f = there_of c in placed_at _ _ (placed-is f.before f.in-At.is)
 
-words : (c : tie.After-table-1) → let s = start_of (last_of c) in c.before.take_out.new.0 ≡ take_out (place_of c) s.args.count s.args.table-1.now
+words : (c : tie.After-table-1) → let s = start_of (last_of c) in c.before.take_out.new.table ≡ take_out (place_of c) s.args.count s.args.table.now
 words c =
     let s = start_of (last_of c) in
-    let short : place_of c < min s.args.count (length s.args.table-1.now / 2) =
-    find-below _ _ _ _ (place_of c) (find-clamped s.args.group s.args.member s.args.count s.args.table-1.now ∙ stands c) in
-    let same : place_of c % 9223372036854775808 ≡ place_of c = omega (arith, short, s.good.0.0) in
-    c.before.take_out.ensures ∙ ap (λ (p : ℕ). take_out p s.args.count s.args.table-1.now) same
+    let short : place_of c < min s.args.count (length s.args.table.now / 2) =
+    find-below _ _ _ _ (place_of c) (find-clamped s.args.group s.args.member s.args.count s.args.table.now ∙ stands c) in
+    let same : place_of c % 9223372036854775808 ≡ place_of c = omega (arith, short, s.well_formed.0.0) in
+    c.before.take_out.ensures ∙ ap (λ (p : ℕ). take_out p s.args.count s.args.table.now) same
 
 lower-requires : tie.Need-lower-requires
 lower-requires c κs =
     let k = last_of c.before in
     let s = start_of k in
     let b = s.requires.1.1 in
-    let t = (there_of c.before).before.before.before.before in
-    ((_, (places b, (_, said k (places b) _ (listed b)))), (omega (arith, t.if-number-eq0.left), omega (arith, number_small b s.args.group (one (test_of k)) k.find_group-found.result (said k), b.small)))
+    ((_, (places b, (_, said k (places b) _ (listed b)))), (omega (arith, c.if-number-eq0.false), omega (arith, number_small b s.args.group (one (test_of k)) k.find_group-found.result (said k), b.small)))
 
-sub-count : tie.Need-overflow_sub-t21
+sub-count : tie.Need-overflow_sub-result
 sub-count c =
     let t = c.before.before.before in
     let s = start_of (last_of t) in
-    omega (arith, find-below s.args.group s.args.member s.args.count s.args.table-1.now (place_of t) (stands t))
+    omega (arith, find-below s.args.group s.args.member s.args.count s.args.table.now (place_of t) (stands t))
 
 returns-4 : tie.Need-returns-in-At
 unfolding change_of words_after count_after holds is_some
@@ -132,12 +130,12 @@ returns-4 c =
     let e = removed-found s.args.group s.args.member (lent s) (fit (test_of k)) q in (
       rw one_fewer (sym (ap change_of e)),
       (
-        words t ∙ sym (ap (words_after s.args.table-1.now) e),
+        words t ∙ sym (ap (words_after s.args.table.now) e),
         (
           λ limit past b.
-              subst (λ (u : Table). Beside limit past u c.before.lower.new.0)
+              subst (λ (u : Table). Beside limit past u c.before.lower.new.groups)
               (remove-present s.args.group s.args.member (lent s) (place_of t) q ∙ (λ i. record { words = sym (words t) i; used = sym (one_fewer s.args.count) i }))
-              (list-lowered b s.args.group s.args.member k.find_group-found.result c.before.lower.new.0 (one (test_of k)) (said k) (ap is_some q) c.before.lower.ensures),
+              (list-lowered b s.args.group s.args.member k.find_group-found.result c.before.lower.new.groups (one (test_of k)) (said k) (ap is_some q) c.before.lower.ensures),
           rw one_fewer (by-list s e),
         ),
       ),
