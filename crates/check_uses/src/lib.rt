@@ -1,4 +1,6 @@
 // The kind of a name, and the names that a record uses, left to right: 9 and 10.
+#![tactic(auto)]
+
 ghost use Rattle.std.specs.Prelude.{◌≡◌, ◌^◌, ◌<◌, ◌≤◌};
 ghost use Rattle.language.specs.Encoding.{kind_field};
 ghost use Rattle.language.specs.Scope as definitions;

@@ -1,5 +1,7 @@
 // Words of the resolved script written one after the other, and those of names, visible and declared. A word's place is half its
 // offset in the script.
+#![tactic(auto)]
+
 ghost use Rattle.std.specs.Prelude.{◌≡◌, [], ◌∷◌, ◌/◌, ◌%◌, ◌^◌, ◌<◌, drop, set};
 ghost use Rattle.check_symbols.specs.Chains.{Chained};
 ghost use Rattle.resolve_words.specs.Growth.{Grown};
