@@ -1,5 +1,7 @@
-// Records as the reader over the script hands them out, and the functions with plain parameters that make a reader and pass it on. The
-// borrow checker covers no function that has a reader, so each leaves the work to a function of the slice and the number.
+// Records as the reader over the script hands them out, and the functions with plain parameters that make a reader and pass it on: each
+// leaves the work to a function of the slice and the number.
+#![tactic(auto)]
+
 ghost use Rattle.std.specs.Prelude.{◌≡◌, ◌+◌, ◌*◌, ◌^◌, ◌<◌, length};
 ghost use Rattle.language.specs.Structure as definitions;
 ghost use Rattle.check_records.specs.Taking.{unread, forget, record_at, Within};

@@ -1,2 +1,0 @@
-pub mod Typed
-pub mod Passing
