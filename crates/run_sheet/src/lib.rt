@@ -1,4 +1,6 @@
 // The sheet, written from an engine's arrays: the resolved script, 32 words for each activation, the place of its block and of its next statement, its link.
+#![tactic(auto)]
+
 ghost use Rattle.std.specs.Prelude.{List, ◌∷◌, ◌++◌, ◌≡◌, ℕ, ◌+◌, ◌*◌, ◌<◌, ◌≤◌, ◌^◌, ℤ, pos, length, get_or};
 ghost use Rattle.language.specs.Sheet.{sheet_share};
 ghost use Rattle.language.specs.Call.{written};

@@ -28,7 +28,7 @@ whole-requires : tie.Need-whole-requires
 whole-requires c κs =
     let u = formal_of c in
     let f = u.before in
-    held_whole _ _ _ f.before.if-word-eq0.left f.formal_of.ensures.0 c.before.position_of-2.ensures.0 u.if-formal_of-eq0.left (nameable f)
+    held_whole _ _ _ f.before.if-word-eq0.false f.formal_of.ensures.0 c.before.position_of-2.ensures.0 u.if-formal_of-eq0.false (nameable f)
     (read_back _ c.whole-arg-1.given)
 
 returns-3 : tie.Need-returns
@@ -38,7 +38,7 @@ returns-3 c =
     let a = w.before in
     let u = formal_of a in
     let f = u.before in
-    designator-formal _ _ _ f.before.if-word-eq0.left f.formal_of.ensures.0 a.before.position_of-2.ensures.0 u.if-formal_of-eq0.left
+    designator-formal _ _ _ f.before.if-word-eq0.false f.formal_of.ensures.0 a.before.position_of-2.ensures.0 u.if-formal_of-eq0.false
     (sym (read_back _ a.whole-arg-1.given) ∙ w.whole.ensures.0) k.cell_of.ensures.0 c.designator_of-2.ensures.0
 
 pub name_designator_spec : {M : Type 1} → statement M

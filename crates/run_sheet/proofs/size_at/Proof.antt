@@ -41,7 +41,7 @@ returns : tie.Need-returns-then-operation-eq-BLOCK
 returns c =
     let k = c.before in
     let u = k.before in
-    (ap (λ v. v - (start_of u.before).args.at) (c.end_of_lem.ensures.0 ∙ ap end_in k.code_at.ensures.0) ∙ sym (size-block _ _ (block u)), omega arith)
+    (ap (λ v. v - (start_of u.before).args.at) (c.end_of.ensures.0 ∙ ap end_in k.code_at.ensures.0) ∙ sym (size-block _ _ (block u)), omega arith)
 
 code_at-requires-3 : tie.Need-code_at-requires-then-word-eq-CALL
 code_at-requires-3 c κs =
@@ -58,7 +58,7 @@ returns-3 : tie.Need-returns
 returns-3 c =
     let u = c.before in
     let o = u.before.before in
-    (c.Plain-size.ensures.0 ∙ ap plain_size (operation o) ∙ sym (size-plain _ _ (no_block u.before) (λ h. u.if-word-eq-CALL.false (call o ∙ h))), omega (arith, c.Plain-size.ensures.1))
+    (c.plain_size.ensures.0 ∙ ap plain_size (operation o) ∙ sym (size-plain _ _ (no_block u.before) (λ h. u.if-word-eq-CALL.false (call o ∙ h))), omega (arith, c.plain_size.ensures.1))
 
 pub size_at_spec : {M : Type 1} → statement M
 size_at_spec =

@@ -59,11 +59,11 @@ returns c =
     let v = offset_of u in
     let s = start_of u in (
       λ number own ws base h e n.
-          let a = read_back _ v.word_of.ok ∙ v.word_of.ensures in
+          let a = read_back _ v.word_of.type_inv ∙ v.word_of.ensures in
           let b = read_back _ u.word_of-2.type_inv ∙ u.word_of-2.ensures ∙ ap pos (u.before.number_of.ensures.0 number h.counts) in
           let d = read_back _ x.word_of-3.type_inv ∙ x.word_of-3.ensures in (
             w.write_names.ensures.0 own (ws ++ (pos (2 * s.args.block) ∷ pos number ∷ pos s.args.encloser ∷ [])) base (owned f h) (sym (names-are f h))
-                ((λ j. set (set (set s.args.sheet-1.now s.args.at (a j)) (s.args.at + 1) (b j)) (s.args.at + 2) (d j)) ∙ heads ws base s.args.sheet-1.now s.args.at _ _ _ e n (omega (arith, s.requires.3)))
+                ((λ j. set (set (set s.args.sheet.now s.args.at (a j)) (s.args.at + 1) (b j)) (s.args.at + 2) (d j)) ∙ heads ws base s.args.sheet.now s.args.at _ _ _ e n (omega (arith, s.requires.3)))
                 (omega (arith, length-append ws (pos (2 * s.args.block) ∷ pos number ∷ pos s.args.encloser ∷ [])))
                 ∙ ap (λ (x : List ℤ). written x base) (append_assoc ws _ own),
             ap (λ k. s.args.at + 3 + k) (names-are f h),

@@ -5,7 +5,7 @@ use borrow.Author.Rules.{rules}
 use mathlib.Core.List.{List}
 use mathlib.Core.Path.{◌≡◌, refl, sym, ap, ◌∙◌}
 use lib.IntN.{ℤ}
-use lib.ListN.{length, take, get_or}
+use lib.ListN.{length, take}
 use lib.Seq.{take_all}
 use Rattle.language.specs.Call.{written}
 use Rattle.laws.specs.Lists.{get_elem-in}
@@ -22,57 +22,35 @@ invariant-loop code cells blocks nexts links live sheet₀ at₀ k₀ sheet at k
 abbrev decreases-loop : tie.decreases-loop-k
 decreases-loop code cells blocks nexts links live sheet₀ at₀ k₀ sheet at k = live - k
 
--- the places: the loop, and an activation's two places and its link as numbers
-abbrev loop_of : tie.After-from_u16 invariant-loop decreases-loop → tie.At-loop-k invariant-loop decreases-loop
-loop_of c = c.before.before.before
-
-abbrev block_of : tie.After-from_u16-in-loop-k invariant-loop decreases-loop → tie.After-from_u16 invariant-loop decreases-loop
-block_of c = c.before.before
-
-abbrev next_of : tie.After-encloser_of invariant-loop decreases-loop → tie.After-from_u16-in-loop-k invariant-loop decreases-loop
-next_of c = c.before.before.before
-
-live-few : (s : tie.Start invariant-loop decreases-loop) → s.args.live ≤ 256
-live-few s = let p = s.requires.0 in omega (arith, p.1.most, p.2)
-
 loop-holds : tie.Need-loop-k-init invariant-loop decreases-loop
-loop-holds c = (omega arith, refl, λ fs h l. none_written fs c.args.sheet-1.now)
-
-encloser-read : (v : tie.After-encloser_of invariant-loop decreases-loop)
-    → let u = loop_of (block_of (next_of v)) in v.encloser_of.result ≡ encloser_by u.loop-k.k (get_or u.before.args.links.now u.loop-k.k 0)
-encloser-read v = let u = loop_of (block_of (next_of v)) in v.encloser_of.ensures ∙ ap (encloser_by u.loop-k.k) v.before.from_u16-in-loop-k-2.ensures.0
+loop-holds c = (omega arith, refl, λ fs h l. none_written fs c.args.sheet.now)
 
 write_activation-requires : tie.Need-write_activation-at-requires invariant-loop decreases-loop
 write_activation-requires c κs =
-    let v = c.before in
-    let n = next_of v in
-    let b = block_of n in
-    let u = loop_of b in
-    let p = u.before.requires.0 in
-    let k = u.loop-k.k in
+    let p = c.requires.0 in
+    let k = c.loop-k.k in
     let l : k < length p.0 = omega (arith, p.2) in
     let w = get_elem-in p.0 k l in
-    let i = u.loop-k.invariant in
+    let i = c.loop-k.invariant in
     let f = p.1.bounded k w.0 w.1 in
-    (w.0.next, w.0.words, shown-at p.1 k w.0 w.1 _ _ b.from_u16.ensures.0 n.from_u16-in-loop-k.ensures.0, omega (arith, f.few, i.1, (i.2 p.0 p.1 p.2).1, sheet-room p.1 k (omega arith), u.before.requires.1, p.2), encloser-few p.1 k w.0 w.1 (encloser-read v))
+    let r = c.encloser_of.ensures ∙ ap (encloser_by k) c.from_u16-in-loop-k-2.ensures.0 in
+    (w.0.next, w.0.words, shown-at p.1 k w.0 w.1 _ _ c.from_u16.ensures.0 c.from_u16-in-loop-k.ensures.0, omega (arith, f.few, i.1, (i.2 p.0 p.1 p.2).1, sheet-room p.1 k (omega arith), c.requires.1, p.2), encloser-few p.1 k w.0 w.1 r)
 
 loop-again : tie.Need-loop-k-preserved invariant-loop decreases-loop
 loop-again c =
-    let v = c.before.before.before in
-    let n = next_of v in
-    let u = loop_of (block_of n) in
-    let k = u.loop-k.k in
-    let r = c.before.write_activation-at.ensures in (
+    let k = c.loop-k.k in
+    let w0 = c.write_activation-at.ensures in
+    let r = c.encloser_of.ensures ∙ ap (encloser_by k) c.from_u16-in-loop-k-2.ensures.0 in (
       omega arith,
-      r.1 ∙ u.loop-k.invariant.1,
+      w0.1 ∙ c.loop-k.invariant.1,
       λ fs h l.
           let b : k < length fs = omega arith in
           let w = get_elem-in fs k b in
           let f = w.0 in
-          let i = u.loop-k.invariant.2 fs h l in
-          let block = (block_of n).from_u16.ensures.0 in
-          let q = r.0 f.next f.words (frame_sheet (take k fs)) u.before.args.sheet-1.now (shown-at h k f w.1 _ _ block n.from_u16-in-loop-k.ensures.0) i.0 (sym i.1) in
-          (q.0 ∙ ap (λ (x : List ℤ). written x u.before.args.sheet-1.now) (sheet-on h k f w.1 _ _ block (encloser-read v)), q.1 ∙ sheet-on-length h k f w.1 u.loop-k.at i.1),
+          let i = c.loop-k.invariant.2 fs h l in
+          let block = c.from_u16.ensures.0 in
+          let q = w0.0 f.next f.words (frame_sheet (take k fs)) c.args.sheet.now (shown-at h k f w.1 _ _ block c.from_u16-in-loop-k.ensures.0) i.0 (sym i.1) in
+          (q.0 ∙ ap (λ (x : List ℤ). written x c.args.sheet.now) (sheet-on h k f w.1 _ _ block r), q.1 ∙ sheet-on-length h k f w.1 c.loop-k.at i.1),
     )
 
 same_length : tie.Need-shape_of-sheet invariant-loop decreases-loop
@@ -83,12 +61,12 @@ returns c fs h l =
     let i = c.before.loop-k.invariant in
     let r = i.2 fs h l in
     let all : take c.before.loop-k.k fs ≡ fs = take_all c.before.loop-k.k fs (omega arith) in
-    (r.0 ∙ ap (λ (x : List Frame). written (frame_sheet x) c.before.before.args.sheet-1.now) all, r.1 ∙ ap (λ (x : List Frame). length (frame_sheet x)) all)
+    (r.0 ∙ ap (λ (x : List Frame). written (frame_sheet x) c.before.before.args.sheet.now) all, r.1 ∙ ap (λ (x : List Frame). length (frame_sheet x)) all)
 
 pub write_sheet_spec : {M : Type 1} → statement M
 write_sheet_spec =
-    tie.close (tie.spec invariant-loop decreases-loop loop-holds (λ c. omega (arith, live-few c.before.before))
-    (λ c. omega (arith, live-few c.before.before)) (λ c κs. search rules) (λ c. omega (arith, live-few (loop_of c).before))
-    (λ c. omega (arith, live-few (loop_of c).before)) (λ c κs. search rules) (λ c. omega (arith, live-few (loop_of (block_of c)).before))
-    (λ c. omega (arith, live-few (loop_of (block_of c)).before)) (λ c κs. search rules) (λ c κs. omega (arith, c.from_u16-in-loop-k-2.ensures.1)) (λ c. omega (arith, live-few (loop_of (block_of (next_of c))).before))
+    tie.close (tie.spec invariant-loop decreases-loop loop-holds (λ c. omega (arith, c.requires.0.1.most, c.requires.0.2))
+    (λ c. omega (arith, c.requires.0.1.most, c.requires.0.2)) (λ c κs. search rules) (λ c. omega (arith, c.requires.0.1.most, c.requires.0.2))
+    (λ c. omega (arith, c.requires.0.1.most, c.requires.0.2)) (λ c κs. search rules) (λ c. omega (arith, c.requires.0.1.most, c.requires.0.2))
+    (λ c. omega (arith, c.requires.0.1.most, c.requires.0.2)) (λ c κs. search rules) (λ c κs. omega (arith, c.from_u16-in-loop-k-2.ensures.1)) (λ c. omega (arith, c.requires.0.1.most, c.requires.0.2))
     write_activation-requires (λ c. search rules) (λ c. search rules) loop-again same_length returns)
