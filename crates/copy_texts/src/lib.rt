@@ -1,5 +1,7 @@
 // Texts copied in the copying area. The words of a block go from one activation's room to another's, and the names of the block entered become
 // new ones on the way.
+#![tactic(auto)]
+
 ghost use Rattle.std.specs.Prelude.{◌≡◌, ℕ, ◌+◌, ◌*◌, ◌-◌, ◌/◌, ◌<◌, ◌≤◌, ◌^◌, length, get_or};
 ghost use Rattle.laws.specs.Fields.{field_at};
 ghost use Rattle.copy_texts.specs.Texts.{renewed, Copied, noted, noted_from};
