@@ -10,13 +10,13 @@ use Rattle.std.specs.Prelude.{◌≡◌, refl, ℕ, List, [], ◌∷◌, length}
 use Rattle.std.proofs.Common.{sym, subst}
 use Rattle.std.proofs.Math.Option.{some as just}
 use seplogic.Ra.Ura.{Ura}
-use seplogic.Ra.TreeShare.{full_share}
+use base.Fraction.{full_share}
 use mir.Syntax.{named, Ty}
 use base.Logic.{SProp, ent, sep, emp, via, mono_r, emp∗, fst∗}
 use base.Fml.{GName, Fml, fsep, flent}
 use types.Logic.{Logic, sem}
 use contract.Monad.{fact}
-use types.Kit.{Item, ‵, ◌⊛◌, some, later, ⋆, nth, put, Goal, Soaks, Seq, Step, step, ◌$◌, move, use1, use3, split, pick, rewrite, fsplit, fjoin, feq_l, await}
+use types.Kit.{Item, ‵, ◌⊛◌, some, later, ⋆, nth, put, Goal, Soaks, Seq, Step, step, ◌$◌, move, drop, use1, use3, split, pick, rewrite, fsplit, fjoin, feq_l, await}
 use types.Tokens.{lft_new, lft_end}
 use types.SemTy.{cells, Arr}
 use types.Share.{arr_parts}
@@ -29,7 +29,7 @@ use denote.Ref.{MutBor, mut_vals}
 use denote.Slice.{slice_val, MutSlice, Room}
 use Rattle.walks.specs.Data.{Datum, Good}
 use Rattle.walks.specs.Loans.{Loan, mut_ref, mut_slice, In, Out, gives}
-use Rattle.walks.specs.Params.{Par, Bounds, outs, Goods, alive}
+use Rattle.walks.specs.Params.{Par, Bounds, Sames, outs, Goods, alive}
 use Rattle.walks.specs.Functions.{has, leaves-with}
 use Rattle.walks.specs.Lends.{OpenRef, opened-ref, closed-ref}
 use Rattle.walks.specs.Frames.{Among, type_of, block_of}
@@ -71,7 +71,7 @@ module _ {M : Type 1} {𝓤 : Ura M} {𝓛 : Logic 𝓤} {K : Type 0} {Γ : List
 
   pub back-array : K → Soaks G → (R : RattleType) (n : ℕ) (h : Loan) (xs ys : List R.Denot) (ν : ℕ) (δ : GName) → h.val ∷ [] ≡ mut_vals (at h xs)
       → Step K 𝓛 (‵ (In (mut_ref (Array R n)) h ys) ∷ Γ) G (‵ (Out (mut_slice R) (span_of h n ν δ) ys) ∷ ‵ (WaitsArray R n h xs ν δ) ∷ Γ) G
-  back-array t z R n h xs ys ν δ p = step (λ s. fsplit t $ move t (1 ∷ 0 ∷ []) $ lft_end t z $ move t (2 ∷ []) $ fsplit t $ move t (2 ∷ 0 ∷ 3 ∷ []) $
+  back-array t z R n h xs ys ν δ p = step (λ s. fsplit t $ fsplit t $ move t (1 ∷ []) $ drop t $ move t (1 ∷ 0 ∷ []) $ lft_end t z $ move t (2 ∷ []) $ fsplit t $ move t (2 ∷ 0 ∷ 3 ∷ []) $
       use3 𝓛 (later (‵ ((Arr (mem R) n).own_at ys h.block h.off))) (slice_back 𝓛 R (ν ∷ []) δ ys n h.block h.off) $
       await t z $ fsplit t $ move t (1 ∷ []) $ use1 𝓛 (‵ (row R full_share ys h.block h.off)) (whole_out 𝓛 R ys h.block h.off) $
       move t (1 ∷ 0 ∷ []) $ fjoin t $
@@ -116,10 +116,10 @@ module _ {M : Type 1} {𝓤 : Ura M} {𝓛 : Logic 𝓤} {K : Type 0} {Γ : List
       back-local t z (arrays D n) m i b ys s.outer s.outer_name e g a q there k
 
 -- ---- no `ensures`
-pub leaves-unsaid : {M : Type 1} {𝓤 : Ura M} (𝓛 : Logic 𝓤) (ps : List Par) (ws : Bounds 0 ps) → Goods ps → (D : Datum)
+pub leaves-unsaid : {M : Type 1} {𝓤 : Ura M} (𝓛 : Logic 𝓤) (ps : List Par) (ws : Bounds 0 ps) → Sames 0 ps ws → Goods ps → (D : Datum)
     (r : D.type.Denot) → Good D r
-    → ent 𝓤 (⋆ 𝓛 (outs 𝓤 0 ps ws)) (sep 𝓤 (sep 𝓤 (alive 𝓛 ps) (sep 𝓤 (sem 𝓛 (has 0 ps ws)) (sem 𝓛 (D.type.own r (D.val r ∷ []))))) (emp 𝓤))
-leaves-unsaid {𝓤 = 𝓤} 𝓛 ps ws goods D r good =
-    let P : SProp 𝓤 = sep 𝓤 (alive 𝓛 ps) (sep 𝓤 (sem 𝓛 (has 0 ps ws)) (sem 𝓛 (D.type.own r (D.val r ∷ [])))) in
+    → ent 𝓤 (⋆ 𝓛 (outs 𝓤 0 ps ws)) (sep 𝓤 (sep 𝓤 (alive 𝓛 ps) (sep 𝓤 (sem 𝓛 (has 0 ps ws)) (sem 𝓛 (D.type.own_val r (D.val r ∷ []))))) (emp 𝓤))
+leaves-unsaid {𝓤 = 𝓤} 𝓛 ps ws same goods D r good =
+    let P : SProp 𝓤 = sep 𝓤 (alive 𝓛 ps) (sep 𝓤 (sem 𝓛 (has 0 ps ws)) (sem 𝓛 (D.type.own_val r (D.val r ∷ [])))) in
     let Q : SProp 𝓤 = fact 𝓤 (Unit {0}) in
-    via 𝓤 (sep 𝓤 P Q) (leaves-with 𝓛 ps ws goods D r good (Unit {0}) tt) (mono_r 𝓤 P (via 𝓤 (sep 𝓤 (emp 𝓤) Q) (emp∗ 𝓤 Q) (fst∗ 𝓤 (emp 𝓤) Q)))
+    via 𝓤 (sep 𝓤 P Q) (leaves-with 𝓛 ps ws same goods D r good (Unit {0}) tt) (mono_r 𝓤 P (via 𝓤 (sep 𝓤 (emp 𝓤) Q) (emp∗ 𝓤 Q) (fst∗ 𝓤 (emp 𝓤) Q)))

@@ -10,15 +10,14 @@
 use Rattle.std.specs.Prelude.{◌≡◌, refl, ℕ, zero, suc, List, [], ◌∷◌, ◌++◌}
 use Rattle.std.proofs.Common.{ap, subst}
 use seplogic.Ra.Ura.{Ura}
-use mir.Syntax.{Name, Place, Opd as Operand, Body, seq, call}
+use mir.Syntax.{Callee, Place, Opd as Operand, Body, seq, call}
 use mir.Val.{Val}
-use base.Logic.{SProp, ent, sep, ex, emp, guard, id⊢, via, mono_l, mono_r, assoc∗, assoc', comm∗, emp∗}
-use Rattle.std.specs.Borrow.{Fml}
+use base.Logic.{SProp, ent, sep, ex, emp, via, mono_l, mono_r, assoc∗, assoc', comm∗, emp∗}
 use prog.Wp.{Env, Calls, Loops, eval_opds}
 use types.Logic.{Logic, sem}
 use contract.Monad.{fact, fact_i}
 use sound.WpLaws.{FmC}
-use types.Kit.{Item, ‵, raw, ◌⊛◌, some, later, given, mean, ⋆, ++⊢, ⊢++, push, pop, Post, Goal, aim, runs, lands, Seq, Step, step, ◌$◌, ◌∵◌, !, by, move, drop, use1, use3, split, pick, learn, regoal, await}
+use types.Kit.{Item, ‵, raw, ◌⊛◌, some, later, given, mean, ⋆, ++⊢, push, pop, Post, Goal, aim, runs, lands, Seq, Step, step, ◌$◌, by, move, use3, split, pick, learn, regoal, await}
 use types.Run.{Opds}
 use contract.Lifetimes.{Lfts, Shares}
 use denote.RattleType.{RattleType, Denots, Valss}
@@ -36,11 +35,11 @@ module _ {M : Type 1} {𝓤 : Ura M} (𝓛 : Logic 𝓤) (ps : List Par) (R : Ra
   open 𝓛 use {H}
 
   abbrev pub Given-back : Val → SProp 𝓤
-  Given-back v = H.⇛ (ex 𝓤 (λ (r : R.Denot). sep 𝓤 (sep 𝓤 (alive 𝓛 ps) (sem 𝓛 (R.own r (v ∷ []))))
+  Given-back v = H.⇛ (ex 𝓤 (λ (r : R.Denot). sep 𝓤 (sep 𝓤 (alive 𝓛 ps) (sem 𝓛 (R.own_val r (v ∷ []))))
       (ex 𝓤 (λ (ws : Bounds 0 ps). sep 𝓤 (sem 𝓛 (lasts 0 ps ws)) (fact 𝓤 (ψ r ws))))))
 
   abbrev back : Val → Item 𝓤
-  back v = later (some (λ (r : R.Denot). (raw (alive 𝓛 ps) ⊛ ‵ (R.own r (v ∷ []))) ⊛ some (λ (ws : Bounds 0 ps). ‵ (lasts 0 ps ws) ⊛ raw
+  back v = later (some (λ (r : R.Denot). (raw (alive 𝓛 ps) ⊛ ‵ (R.own_val r (v ∷ []))) ⊛ some (λ (ws : Bounds 0 ps). ‵ (lasts 0 ps ws) ⊛ raw
       (fact 𝓤 (ψ r ws)))))
 
 module _ {M : Type 1} {𝓤 : Ura M} {𝓛 : Logic 𝓤} {K : Type 0} {Γ : List (Item 𝓤)} {G : Goal 𝓤 𝓛.H} where
@@ -88,7 +87,7 @@ module _ {M : Type 1} {𝓤 : Ura M} {𝓛 : Logic 𝓤} {K : Type 0} {Γ : List
   -- by one instance of the callee's contract, as a member of a cycle has it
   open 𝓛 use {H}
 
-  pub calls-one : K → {f : Name} {xs : List Operand} → FmC 𝓤 H 𝓛.laws C → (c : Contract 𝓤) (x : c.Ghost) → ent 𝓤 (c.pre x) (C f (c.args x) (c.post x))
+  pub calls-one : K → {f : Callee} {xs : List Operand} → FmC 𝓤 H 𝓛.laws C → (c : Contract 𝓤) (x : c.Ghost) → ent 𝓤 (c.pre x) (C f (c.args x) (c.post x))
       → (ps : List Par)
       → head (count ps) Γ ≡ ins 𝓤 ps → Goods ps → (φ : Type 0) → φ
       → ent 𝓤 (sep 𝓤 (sep 𝓤 (alive 𝓛 ps) (owning 𝓛 0 ps)) (fact 𝓤 φ)) (c.pre x)
@@ -127,7 +126,7 @@ module _ {M : Type 1} {𝓤 : Ura M} {𝓛 : Logic 𝓤} {K : Type 0} {Γ : List
       with_fact : ent 𝓤 asks (sep 𝓤 asks (fact 𝓤 φ))
       with_fact = via 𝓤 (sep 𝓤 (emp 𝓤) asks) (emp∗ 𝓤 asks) (via 𝓤 (sep 𝓤 (fact 𝓤 φ) asks) (mono_l 𝓤 asks (fact_i 𝓤 φ (emp 𝓤) p)) (comm∗ 𝓤 (fact 𝓤 φ) asks))
 
-  pub calls_by : K → {f : Name} {xs : List Operand} → FmC 𝓤 H 𝓛.laws C → (c : Contract 𝓤) → Triple 𝓤 (C f) c → (x : c.Ghost) (ps : List Par)
+  pub calls_by : K → {f : Callee} {xs : List Operand} → FmC 𝓤 H 𝓛.laws C → (c : Contract 𝓤) → Triple 𝓤 (C f) c → (x : c.Ghost) (ps : List Par)
       → head (count ps) Γ ≡ ins 𝓤 ps → Goods ps → (φ : Type 0) → φ
       → ent 𝓤 (sep 𝓤 (sep 𝓤 (alive 𝓛 ps) (owning 𝓛 0 ps)) (fact 𝓤 φ)) (c.pre x)
       → (D : Datum) (ψ : D.type.Denot → Bounds 0 ps → Type 0) → ((v : Val) → ent 𝓤 (c.post x v) (Given-back 𝓛 ps D.type ψ v))

@@ -14,7 +14,7 @@ use types.Kit.{⋆}
 use Rattle.std.specs.Borrow.{RattleType}
 use denote.Triple.Walked.{needs}
 use Rattle.walks.specs.Data.{Datum, Good}
-use Rattle.walks.specs.Params.{Par, Bounds, lasts, outs, Goods, alive, owning}
+use Rattle.walks.specs.Params.{Par, Bounds, Sames, lasts, outs, Goods, alive, owning}
 use Rattle.walks.specs.Functions.{has, leaves-with}
 use Rattle.walks.specs.Calls.{Given-back}
 
@@ -60,12 +60,12 @@ module _ {M : Type 1} {𝓤 : Ura M} (𝓛 : Logic 𝓤) (ps : List Par) (R : Ra
   all_at (ψ ∷ ψs) r ws = ψ r ws ∷ all_at ψs r ws
 
   abbrev Back : (R.Denot → Bounds 0 ps → SProp 𝓤) → Val → R.Denot → SProp 𝓤
-  Back F v r = sep 𝓤 (sep 𝓤 (alive 𝓛 ps) (sem 𝓛 (R.own r (v ∷ [])))) (ex 𝓤 (λ (ws : Bounds 0 ps). sep 𝓤 (sem 𝓛 (lasts 0 ps ws)) (F r ws)))
+  Back F v r = sep 𝓤 (sep 𝓤 (alive 𝓛 ps) (sem 𝓛 (R.own_val r (v ∷ [])))) (ex 𝓤 (λ (ws : Bounds 0 ps). sep 𝓤 (sem 𝓛 (lasts 0 ps ws)) (F r ws)))
 
   pub said-together : (ψs : List (R.Denot → Bounds 0 ps → Type 0)) (v : Val)
       → ent 𝓤 (H.⇛ (ex 𝓤 (Back (λ r ws. facts 𝓤 (all_at ψs r ws)) v))) (Given-back 𝓛 ps R (λ r ws. All (all_at ψs r ws)) v)
   said-together ψs v = 𝓛.laws.⇛_mono (ex 𝓤 (Back (λ r ws. facts 𝓤 (all_at ψs r ws)) v)) (ex 𝓤 (Back one v)) (ex_e 𝓤 (Back (λ r ws. facts 𝓤 (all_at ψs r ws)) v)
-      (λ r. via 𝓤 (Back one v r) (mono_r 𝓤 (sep 𝓤 (alive 𝓛 ps) (sem 𝓛 (R.own r (v ∷ [])))) (ex_e 𝓤 (λ (ws : Bounds 0 ps).
+      (λ r. via 𝓤 (Back one v r) (mono_r 𝓤 (sep 𝓤 (alive 𝓛 ps) (sem 𝓛 (R.own_val r (v ∷ [])))) (ex_e 𝓤 (λ (ws : Bounds 0 ps).
       sep 𝓤 (sem 𝓛 (lasts 0 ps ws)) (facts 𝓤 (all_at ψs r ws))) (λ ws. via 𝓤 (sep 𝓤 (sem 𝓛 (lasts 0 ps ws)) (one r ws))
       (mono_r 𝓤 (sem 𝓛 (lasts 0 ps ws)) (together 𝓤 (all_at ψs r ws))) (ex_i 𝓤 (λ (us : Bounds 0 ps). sep 𝓤 (sem 𝓛 (lasts 0 ps us)) (one r us)) ws))))
       (ex_i 𝓤 (Back one v) r)))
@@ -74,11 +74,11 @@ module _ {M : Type 1} {𝓤 : Ura M} (𝓛 : Logic 𝓤) (ps : List Par) (R : Ra
       one r ws = fact 𝓤 (All (all_at ψs r ws))
 
 module _ {M : Type 1} {𝓤 : Ura M} (𝓛 : Logic 𝓤) where
-  pub leaves-saying : (ps : List Par) (ws : Bounds 0 ps) → Goods ps → (D : Datum) (r : D.type.Denot) → Good D r → (φs : List (Type 0)) → All φs
-      → ent 𝓤 (⋆ 𝓛 (outs 𝓤 0 ps ws)) (sep 𝓤 (sep 𝓤 (alive 𝓛 ps) (sep 𝓤 (sem 𝓛 (has 0 ps ws)) (sem 𝓛 (D.type.own r (D.val r ∷ []))))) (facts
+  pub leaves-saying : (ps : List Par) (ws : Bounds 0 ps) → Sames 0 ps ws → Goods ps → (D : Datum) (r : D.type.Denot) → Good D r → (φs : List (Type 0)) → All φs
+      → ent 𝓤 (⋆ 𝓛 (outs 𝓤 0 ps ws)) (sep 𝓤 (sep 𝓤 (alive 𝓛 ps) (sep 𝓤 (sem 𝓛 (has 0 ps ws)) (sem 𝓛 (D.type.own_val r (D.val r ∷ []))))) (facts
       𝓤 φs))
-  leaves-saying ps ws goods D r good φs x = via 𝓤 (sep 𝓤 Rest (fact 𝓤 (All φs))) (leaves-with 𝓛 ps ws goods D r good (All φs) x) (mono_r 𝓤 Rest (apart 𝓤
+  leaves-saying ps ws same goods D r good φs x = via 𝓤 (sep 𝓤 Rest (fact 𝓤 (All φs))) (leaves-with 𝓛 ps ws same goods D r good (All φs) x) (mono_r 𝓤 Rest (apart 𝓤
       φs))
     where
       Rest : SProp 𝓤
-      Rest = sep 𝓤 (alive 𝓛 ps) (sep 𝓤 (sem 𝓛 (has 0 ps ws)) (sem 𝓛 (D.type.own r (D.val r ∷ []))))
+      Rest = sep 𝓤 (alive 𝓛 ps) (sep 𝓤 (sem 𝓛 (has 0 ps ws)) (sem 𝓛 (D.type.own_val r (D.val r ∷ []))))

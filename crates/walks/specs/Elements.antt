@@ -1,22 +1,23 @@
 -- One element of a slice in hand, which is looked at or written. R's relation tells its machine values, `vals`, and R is plain data.
---     looks-at         a `&[T]` in hand becomes, where i is within, a share of the cell of element i, and what waits.        shuts-at     and back
+--     looks-at         a `&[T]` in hand becomes, where i is within, a share of the cell of element i, and what waits (`Looked`, an entry).        shuts-at     and back
 --     opens_at         a `&mut [T]` in hand becomes the cell of element i, and what waits.        closes_at    and back, with another value in the cell
 -- Assumes `Logic`.
-use Rattle.std.specs.Prelude.{◌≡◌, ℕ, ◌<◌, List, [], ◌∷◌, length, get_or, set}
+use Rattle.std.specs.Prelude.{ℕ, ◌<◌, List, [], ◌∷◌, length, get_or, set}
 use Rattle.std.proofs.Common.{length-set}
 use seplogic.Ra.Ura.{Ura}
-use seplogic.Ra.TreeShare.{full_share}
+use base.Fraction.{full_share}
 use mir.Syntax.{named}
 use mir.Val.{Val}
-use base.Fml.{Share, Fml, fsep, fobor}
+use base.Fml.{Share, Fml, fsep}
 use types.Logic.{Logic}
-use types.Kit.{Item, ‵, ◌⊛◌, Goal, Soaks, Seq, Step, step, ◌$◌, move, use1, drop, split, fsplit, fjoin}
-use types.Share.{arr_parts}
-use Rattle.std.specs.Borrow.{RattleType}
-use denote.Laws.{Is, Tells, Makes, Copy, shows}
+use types.Kit.{Item, ‵, ◌⊛◌, Goal, Soaks, Seq, Step, step, ◌$◌, move, use1, drop, split, join, fsplit, fjoin}
+use denote.RattleType.{RattleType, RowLaws}
+use denote.Copied.{Copied}
+use denote.Opens.{Shut}
+use denote.Laws.{Is, Tells, Makes, shows}
 use denote.Memory.{cell_at, mem, shares}
 use denote.Slice.{shr_slice_copy}
-use denote.Index.{place, others, elem_out, elem_back, elem_put, looks_slice, shuts_slice}
+use denote.Index.{row, place, others, elem_out, elem_back, elem_put, looks_slice, shuts_slice}
 use denote.Steps.{owned as makes-owned}
 use Rattle.walks.specs.Loans.{Loan, mut_slice, shr_slice, owned, ref, In}
 use Rattle.walks.specs.Lends.{Open, opened, closed}
@@ -26,31 +27,32 @@ module _ (R : RattleType) (h : Loan) (ys : List R.Denot) (i : ℕ) where
   abbrev pub Cell : Share → List Val → Fml
   Cell q vs = cell_at q R.mir vs h.block (place (mem R).size h.off i)
 
-  abbrev pub Looked : Share → R.Denot → List Val → Fml
-  Looked q d vs = fsep (R.own (get_or ys i d) vs) (fsep (others (shares R) q ys i h.block h.off)
-      (fsep (fobor h.lft h.share ((arr_parts (shares R) (length ys)).part q ys h.block h.off)) (owned (shr_slice R) (named 0) h ys)))
-
   abbrev pub Opened : Fml
   Opened = fsep (others (shares R) full_share ys i h.block h.off) (Open R h ys)
 
-module _ {M : Type 1} {𝓤 : Ura M} {𝓛 : Logic 𝓤} {K : Type 0} {Γ : List (Item 𝓤)} {G : Goal 𝓤 𝓛.H} where
-  pub looks-at : K → Soaks G → (R : RattleType) (vals : R.Denot → List Val) → Tells R (Is R) vals → Copy 𝓛 R → (h : Loan) (ys : List R.Denot) (i : ℕ)
-      (d : R.Denot) → i < length ys
-      → ((q : Share) → Is R (get_or ys i d) (vals (get_or ys i d)) → Seq K 𝓛 (‵ (Cell R h ys i q (vals (get_or ys i d))) ∷ ‵
-      (Looked R h ys i q d (vals (get_or ys i d))) ∷ Γ) G) → Seq K 𝓛 (‵ (In (shr_slice R) h ys) ∷ Γ) G
-  looks-at t z R vals tl cp h ys i d l k =
-      fsplit t $ use1 𝓛 (‵ (owned (shr_slice R) (named 0) h ys) ⊛ ‵ (owned (shr_slice R) (named 0) h ys)) ((shr_slice_copy 𝓛 (named 0) h.lft R).twice
-      (ref (named 0) h.lft h (shr_slice R) ys) (h.val ∷ [])) $ split t $
-      -- of the first copy the fractured borrow is taken: [it; the slice; the token]
-      fsplit t $ drop t $ fsplit t $ drop t $ move t (0 ∷ 2 ∷ []) $
-      looks_slice t z R (Is R) (shows 𝓛 R) vals tl cp ys h.block h.off (λ q. elem_out t R (Is R) (shows 𝓛 R) vals tl q ys i d h.block
-      h.off l (λ g.
-      -- [the cell; what it owns; the others; what shuts; the fractured borrow; the slice]
-      move t (4 ∷ []) $ drop t $ move t (3 ∷ 4 ∷ []) $ fjoin t $ move t (3 ∷ 0 ∷ []) $ fjoin t $ move t (2 ∷ 0 ∷ []) $ fjoin t $ move t (1 ∷ 0 ∷ []) $ k q g))
+module _ {M : Type 1} {𝓤 : Ura M} (𝓛 : Logic 𝓤) (R : RattleType) (L : RowLaws R) (h : Loan) (ys : List R.Denot) (i : ℕ) where
+  abbrev pub Looked : Share → R.Denot → List Val → Item 𝓤
+  Looked q d vs = ‵ (R.own_val (get_or ys i d) vs) ⊛ (‵ (others (shares R) q ys i h.block h.off) ⊛
+      (Shut 𝓛 h.lft h.share (row R q ys h.block h.off) ⊛ ‵ (owned (shr_slice R L) (named 0) h ys)))
 
-  pub shuts-at : K → Soaks G → (R : RattleType) (h : Loan) (ys : List R.Denot) (i : ℕ) (d : R.Denot) (q : Share) (vs : List Val) → i < length ys
-      → Step K 𝓛 (‵ (In (shr_slice R) h ys) ∷ Γ) G (‵ (Cell R h ys i q vs) ∷ ‵ (Looked R h ys i q d vs) ∷ Γ) G
-  shuts-at t z R h ys i d q vs l = step (λ s. move t (1 ∷ []) $ fsplit t $ move t (1 ∷ []) $ fsplit t $ move t (1 ∷ []) $ fsplit t $
+module _ {M : Type 1} {𝓤 : Ura M} {𝓛 : Logic 𝓤} {K : Type 0} {Γ : List (Item 𝓤)} {G : Goal 𝓤 𝓛.H} where
+  pub looks-at : K → Soaks G → (R : RattleType) (L : RowLaws R) (vals : R.Denot → List Val) → Tells R (Is R) vals → Copied 𝓛 R → (h : Loan) (ys : List R.Denot)
+      (i : ℕ) (d : R.Denot) → i < length ys
+      → ((q : Share) → Is R (get_or ys i d) (vals (get_or ys i d)) → Seq K 𝓛 (‵ (Cell R h ys i q (vals (get_or ys i d))) ∷
+      Looked 𝓛 R L h ys i q d (vals (get_or ys i d)) ∷ Γ) G) → Seq K 𝓛 (‵ (In (shr_slice R L) h ys) ∷ Γ) G
+  looks-at t z R L vals tl cp h ys i d l k =
+      fsplit t $ use1 𝓛 (‵ (owned (shr_slice R L) (named 0) h ys) ⊛ ‵ (owned (shr_slice R L) (named 0) h ys)) ((shr_slice_copy 𝓛 (named 0) h.lft R L).twice
+      (ref (named 0) h.lft h (shr_slice R L) ys) (h.val ∷ [])) $ split t $
+      -- of the first copy the elements are taken: [them; the slice; the token]
+      fsplit t $ drop t $ move t (0 ∷ 2 ∷ []) $
+      looks_slice t z R cp ys h.block h.off (λ q. elem_out t R (Is R) (shows 𝓛 R) vals tl q ys i d h.block
+      h.off l (λ g.
+      -- [the cell; what it owns; the others; what shuts; the elements; the slice]
+      move t (4 ∷ []) $ drop t $ move t (3 ∷ 4 ∷ []) $ join t $ move t (3 ∷ 0 ∷ []) $ join t $ move t (2 ∷ 0 ∷ []) $ join t $ move t (1 ∷ 0 ∷ []) $ k q g))
+
+  pub shuts-at : K → Soaks G → (R : RattleType) (L : RowLaws R) (h : Loan) (ys : List R.Denot) (i : ℕ) (d : R.Denot) (q : Share) (vs : List Val) → i < length ys
+      → Step K 𝓛 (‵ (In (shr_slice R L) h ys) ∷ Γ) G (‵ (Cell R h ys i q vs) ∷ Looked 𝓛 R L h ys i q d vs ∷ Γ) G
+  shuts-at t z R L h ys i d q vs l = step (λ s. move t (1 ∷ []) $ split t $ move t (1 ∷ []) $ split t $ move t (1 ∷ []) $ split t $
       -- [what shuts; the slice; the others; what it owns; the cell]
       move t (4 ∷ 3 ∷ 2 ∷ []) $ elem_back t R q ys i d vs h.block h.off l $ shuts_slice t z R q ys h.block h.off $ move t (1 ∷ 0 ∷ []) $ fjoin t $
       s)

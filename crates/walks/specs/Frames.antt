@@ -6,22 +6,21 @@
 --     forgets          what some locals hold is forgotten.        as-held      what one holds is written another way
 --     begins           a function's locals are made and its arguments stored.        frees_all        all are freed
 -- Assumes `Logic`.
-use Rattle.std.specs.Prelude.{◌≡◌, refl, Bool, true, false, ◌&&◌, T, get_or}
+use Rattle.std.specs.Prelude.{◌≡◌, Bool, true, false, ◌&&◌, T, get_or}
 use Rattle.std.proofs.Common.{sym, ◌∙◌, ap, subst, arith}
 use Prim.Native.Nat.{ℕ, zero, suc}
-use mathlib.Core.List.{List, [], ◌∷◌, ◌++◌, map}
+use mathlib.Core.List.{List, [], ◌∷◌}
 use Rattle.std.proofs.Math.Option.{Option, some, none}
 use seplogic.Ra.Ura.{Ura}
-use seplogic.Ra.TreeShare.{full_share}
+use base.Fraction.{full_share}
 use mir.Syntax.{Ty, Local, local, Fn}
 use mir.Val.{Val, WT, has_ty}
-use base.Logic.{SProp, ent, sep, wand, all, emp, guard, id⊢, via, mono∗, mono_l, mono_r, assoc∗, assoc', comm∗, emp∗, fst∗, snd∗, wand_i, apply∗, all_i, all_e, guard_i, guard_e}
-use base.Fml.{fat, froom, fdies}
+use base.Logic.{SProp, ent, sep, wand, all, emp, guard, id⊢, via, mono∗, mono_l, mono_r, assoc∗, assoc', comm∗, emp∗, snd∗, wand_i, apply∗, all_i, all_e, guard_i, guard_e}
 use prog.Wp.{Heap, Env, Calls, Loops, no_local, pass, params, release, Wp, WpFn, at_return}
 use types.Logic.{Logic}
-use types.Kit.{Item, ‵, raw, ◌⊛◌, mean, ⋆, nth, del, put, pull, fill, push, pop, Goal, prop, runs, at_ret, allocs, params', frees, aim, Seq, Step, step, by, ◌$◌, ◌∵◌, !, qed, split, join, move, frame, each, assume, use1, use2, given, check, done}
+use types.Kit.{Item, raw, ◌⊛◌, mean, ⋆, nth, del, put, pull, fill, push, Goal, prop, runs, at_ret, allocs, params', frees, aim, Seq, Step, step, ◌$◌, ◌∵◌, !, qed, split, join, move, frame, use1, use2, given, check, done}
 use types.Part.{Part}
-use types.Run.{Writes, alloc1, alloc0}
+use types.Run.{Writes}
 
 abbrev pub env_at : List Ty → (ℕ → ℕ) → List (Ty × ℕ)
 env_at [] β = []

@@ -16,7 +16,7 @@ use mathlib.Core.List.{List, [], ◌∷◌, map}
 use Rattle.std.proofs.Math.Option.{Option, some, none}
 use Rattle.std.proofs.lemmas.List.{length-replicate}
 use seplogic.Ra.Ura.{Ura}
-use seplogic.Ra.TreeShare.{full_share}
+use base.Fraction.{full_share}
 use mir.Syntax.{Sym, named, Ty, Tys, ty_array, ty_struct, field, Opd as Operand, copy, place, repeat}
 use mir.Val.{Val, Vals, vptr, vstruct}
 use mir.Fields.{get_v}
@@ -25,7 +25,7 @@ use base.Fml.{GName, Fml, fsep, fat, flent}
 use prog.Memory.{field_at, field_of}
 use prog.Wp.{Heap}
 use types.Logic.{Logic, sem}
-use types.Kit.{Item, ‵, raw, ◌⊛◌, some as any_of, later, given, mean, ⋆, nth, del, put, pull, fill, push, pop, Goal, Soaks, Seq, Step, step, by, ◌$◌, ◌∵◌, !, qed, move, split, join, pick, learn, use1, use2, use3, await, rewrite, fsplit, fjoin, fpick, fpack, check, done}
+use types.Kit.{Item, ‵, raw, ◌⊛◌, some as any_of, later, given, mean, ⋆, nth, del, put, pull, fill, push, pop, Goal, Soaks, Seq, Step, step, by, ◌$◌, ◌∵◌, !, qed, move, drop, split, join, pick, learn, use1, use2, use3, await, rewrite, fsplit, fjoin, fpick, fpack, check, done}
 use types.Part.{Part, rep, sub, look_in}
 use types.Run.{Opd, Rv, load, from, stop, fld}
 use types.SemTy.{Body}
@@ -270,7 +270,7 @@ module _ {M : Type 1} {𝓤 : Ura M} (𝓛 : Logic 𝓤) (D : Datum) (b : ℕ) w
       use1 𝓛 (‵ (cell_at full_share (D.mir ∷ []) (D.val x ∷ []) b 0)) (𝓛.laws.at_raw full_share D.mir b zero (D.val x)) $
       rewrite ! 0 (λ (τs : List Ty). ‵ (cell_at full_share τs (D.val x ∷ []) b 0)) (sym D.one) refl $
       owned ! D.type (Is D.type) (D.makes 𝓛) x (D.val x ∷ []) g $ move ! (1 ∷ 0 ∷ []) $ fjoin ! $
-      fpack ! (List Val) (λ vs. fsep (cell_at full_share D.type.mir vs b 0) (D.type.own x vs)) (D.val x ∷ []) $ done !
+      fpack ! (List Val) (λ vs. fsep (cell_at full_share D.type.mir vs b 0) (D.type.own_val x vs)) (D.val x ∷ []) $ done !
 
   lies_out : (y : D.type.Denot) → ent 𝓤 (sem 𝓛 ((mem D.type).own_at y b 0)) (guard 𝓤 (Good D y) (H.at full_share D.mir b zero (D.val y)))
   unfolding part_of
@@ -305,7 +305,7 @@ module _ {M : Type 1} {𝓤 : Ura M} {𝓛 : Logic 𝓤} {K : Type 0} {Γ : List
       → (Good D y → Seq K 𝓛 (put 𝓛 n (hol 𝓤 H τs β (set_slot ss i (kept (some (D.val y))))) Γ) G)
       → Seq K 𝓛 (‵ (Out (mut_ref D.type) (loan_at b ν δ) y) ∷ ‵ (WaitsLocal D b ν δ) ∷ Γ) G
   back-local t z D n i b y ν δ {τs} {β} {ss} e g a q there k =
-      fsplit t $ move t (1 ∷ 0 ∷ []) $ lft_end t z $ move t (0 ∷ 2 ∷ 1 ∷ []) $
+      fsplit t $ fsplit t $ move t (1 ∷ []) $ drop t $ move t (1 ∷ 0 ∷ []) $ lft_end t z $ move t (0 ∷ 2 ∷ 1 ∷ []) $
       use3 𝓛 (later (‵ ((mem D.type).own_at y b 0))) (ref_back 𝓛 D.type (ν ∷ []) δ y b 0) $ await t z $
       use1 𝓛 (given (Good D y) (‵ (fat full_share D.mir b zero (D.val y)))) (lies_out 𝓛 D b y) $ learn t (λ good.
       rewrite t 0 (λ (τ : Ty). ‵ (fat full_share τ b zero (D.val y))) (sym q) refl $
@@ -329,7 +329,7 @@ maps-repeat : (D : Datum) (n : ℕ) (x : D.type.Denot) → replicate n (D.val x)
 maps-repeat D zero x = refl
 maps-repeat D (suc n) x = ap (λ (vs : List Val). D.val x ∷ vs) (maps-repeat D n x)
 
-each-good : (D : Datum) (n : ℕ) (x : D.type.Denot) → Good D x → shadow (each D.type.Denot D.type.own (replicate n x) (map D.val (replicate n x)))
+each-good : (D : Datum) (n : ℕ) (x : D.type.Denot) → Good D x → shadow (each D.type.Denot D.type.own_val (replicate n x) (map D.val (replicate n x)))
 each-good D zero x g = tt
 each-good D (suc n) x g = (g, each-good D n x g)
 

@@ -4,40 +4,65 @@
 --     lends_slice, back-slice      a `&mut [T]` as a `&mut [T]`.        shares-slice, unshares-slice     as a `&[T]`
 --     lends_ref, back-ref          a `&mut T` as a `&mut T`.            shares-ref, unshares-ref         as a `&T`
 --     Waits…           what waits meanwhile
+-- A `&T` is made by T's law (`denote.Shares`'s `Shares`, at a lifetime l), with tokens ts of lifetimes within l, which come back: none, where T holds no `&mut`, since its l is then `[]`.
 -- Assumes `Logic`.
 use Rattle.std.specs.Prelude.{◌≡◌, refl, ℕ, List, [], ◌∷◌, length}
 use Rattle.std.proofs.Common.{sym, ◌∙◌, ap, subst}
 use seplogic.Ra.Ura.{Ura}
-use seplogic.Ra.TreeShare.{full_share}
+use base.Fraction.{full_share}
 use mir.Syntax.{named}
-use mir.Val.{Val, vptr}
-use base.Fml.{GName, Fml, fsep, flft, fobs, fauth, fres, flent, fobor}
-use types.Logic.{Logic}
-use types.Kit.{Item, ‵, ◌⊛◌, some, later, Goal, Soaks, Seq, Step, step, ◌$◌, move, use1, use2, use3, drop, split, pick, rewrite, fsplit, fsplit3, fjoin, fjoin3, feq_l, feq_i, await}
+use mir.Val.{Val}
+use base.Logic.{ent, sep, emp, id⊢, via, fst∗, emp∗, comm∗}
+use base.Fml.{Lft, GName, Fml, Incl, Incl-refl, Incl-trans, fsep, flft, fobs, fauth, flent, fobor}
+use contract.BorrowLft.{⊑_static, meet_⊑_left, meet_⊑_right}
+use ghost.Rules.{Toks, span}
+use types.Logic.{Logic, lfts}
+use types.Kit.{Item, ‵, raw, ◌⊛◌, some, later, Goal, Soaks, Seq, Step, step, ◌$◌, move, use1, use2, use3, drop, split, pick, rewrite, fsplit, fsplit3, fjoin, fjoin3, feq_l, feq_i, await}
 use types.Mut.{open_ref, close_ref}
 use types.Tokens.{lft_new, lft_end, lent_back}
 use types.SemTy.{cells, Arr, Body}
 use types.Share.{arr_parts}
-use Rattle.std.specs.Borrow.{RattleType}
+use denote.RattleType.{RattleType, RowLaws}
 use denote.Shadow.{pure_l, pure_i}
+use denote.Shares.{Shares}
 use denote.Memory.{mem, shares, part_at}
-use denote.Ref.{Bor, MutRef, ShrRef, shr_vals, mut_vals}
-use denote.Slice.{slice_val, MutSlice, ShrSlice, heres, Room, finally, shr_slice_at, mut_slice_at, shr_slice_vals, mut_slice_vals, coded_holeys}
-use denote.Lend.{Held, lends_slice as slice-lent, slice_back, lends_shr_slice, lends_shr, lends_ref as ref-lent, ref_back, LentAgain}
+use denote.Ref.{MutRef, ShrRef, mut_vals}
+use denote.Slice.{slice_val, MutSlice, ShrSlice, heres, Room, mut_slice_at, mut_slice_vals, coded_holeys}
+use denote.Lend.{Held, lends_slice as slice-lent, slice_back, lends_shr_slice, lends_shr, lends_ref as ref-lent, ref_back}
 use denote.Index.{row, whole_out, whole_in, opens_slice, closes_slice}
-use Rattle.walks.specs.Loans.{Loan, mut_ref, shr_ref, mut_slice, shr_slice, token, In, Out}
+use Rattle.walks.specs.Loans.{Loan, mut_ref, shr_ref, mut_slice, shr_slice, mut_at, shr_at, In, Out}
 
 abbrev pub relent : Loan → ℕ → GName → Loan
 relent h ν δ = record { lft = ν ∷ []; share = full_share; block = h.block; off = h.off; name = δ; val = h.val }
 
-abbrev at : {X : Type 0} → Loan → X → Bor X
-at h y = record { ref_ptr = (h.block, h.off); ghost_name = h.name; now = y }
+-- a new lifetime's token, beside others
+abbrev beside-new : ℕ → Toks → Toks
+beside-new ν ts = (ν ∷ [], full_share) ∷ ts
+
+new-within : (ν : ℕ) (ts : Toks) → Incl (span (beside-new ν ts)) (ν ∷ [])
+new-within ν [] = Incl-refl (ν ∷ [])
+new-within ν (t ∷ ts) = meet_⊑_left (ν ∷ []) (span (t ∷ ts))
+
+others-within : (ν : ℕ) (ts : Toks) → Incl (span (beside-new ν ts)) (span ts)
+others-within ν [] = ⊑_static (ν ∷ [])
+others-within ν (t ∷ ts) = meet_⊑_right (ν ∷ []) (span (t ∷ ts))
+
+module _ {M : Type 1} {𝓤 : Ura M} (𝓛 : Logic 𝓤) where
+  open 𝓛 use {A}
+
+  joins-new : (ν : ℕ) (ts : Toks) → ent 𝓤 (sep 𝓤 (A.lft (ν ∷ []) full_share) (lfts 𝓛 ts)) (lfts 𝓛 (beside-new ν ts))
+  joins-new ν [] = fst∗ 𝓤 (A.lft (ν ∷ []) full_share) (lfts 𝓛 [])
+  joins-new ν (t ∷ ts) = id⊢ 𝓤 (lfts 𝓛 (beside-new ν (t ∷ ts)))
+
+  parts-new : (ν : ℕ) (ts : Toks) → ent 𝓤 (lfts 𝓛 (beside-new ν ts)) (sep 𝓤 (A.lft (ν ∷ []) full_share) (lfts 𝓛 ts))
+  parts-new ν [] = via 𝓤 (sep 𝓤 (emp 𝓤) (A.lft (ν ∷ []) full_share)) (emp∗ 𝓤 (A.lft (ν ∷ []) full_share)) (comm∗ 𝓤 (emp 𝓤) (A.lft (ν ∷ []) full_share))
+  parts-new ν (t ∷ ts) = id⊢ 𝓤 (lfts 𝓛 (beside-new ν (t ∷ ts)))
 
 -- ---- slices
 module _ (R : RattleType) (h : Loan) (ys : List R.Denot) where
   -- the borrow, open, with both halves of its ghost variable, and that its machine value is what it is
   abbrev pub Open : Fml
-  Open = fsep (mut_slice_at R (at h ys) (h.val ∷ [])) (fsep (fobor h.lft h.share (Held R (length ys) h.block h.off h.name))
+  Open = fsep (mut_slice_at R (mut_at h ys) (h.val ∷ [])) (fsep (fobor h.lft h.share (Held R (length ys) h.block h.off h.name))
       (fsep (fobs h.name ((coded_holeys R).code (heres R ys))) (fauth h.name ((coded_holeys R).code (heres R ys)))))
 
   abbrev pub WaitsSlice : ℕ → GName → Fml
@@ -48,22 +73,22 @@ module _ (R : RattleType) (h : Loan) (ys : List R.Denot) where
 
 module _ {M : Type 1} {𝓤 : Ura M} {𝓛 : Logic 𝓤} {K : Type 0} {Γ : List (Item 𝓤)} {G : Goal 𝓤 𝓛.H} where
   -- the borrow is opened: its row of elements is in hand
-  pub opened : K → Soaks G → (R : RattleType) (h : Loan) (ys : List R.Denot) → (Room R (length ys) × (h.val ∷ [] ≡ shr_slice_vals (at h ys))
+  pub opened : K → Soaks G → (R : RattleType) (h : Loan) (ys : List R.Denot) → (Room R (length ys) × (h.val ∷ [] ≡ mut_slice_vals (mut_at h ys))
       → Seq K 𝓛 (‵ (row R full_share ys h.block h.off) ∷ ‵ (Open R h ys) ∷ Γ) G)
       → Seq K 𝓛 (‵ (In (mut_slice R) h ys) ∷ Γ) G
   opened t z R h ys k =
-      fsplit t $ fsplit t $ pure_l t (shr_slice_at R (at h ys) (h.val ∷ [])) (λ p. fsplit t $ opens_slice t z R ys h.block h.off $
+      fsplit t $ fsplit t $ pure_l t (mut_slice_at R (mut_at h ys) (h.val ∷ [])) (λ p. fsplit t $ opens_slice t z R ys h.block h.off $
       -- [the row; the open borrow; obs; auth]
-      move t (2 ∷ 3 ∷ []) $ fjoin t $ move t (2 ∷ 0 ∷ []) $ fjoin t $ pure_i t (shr_slice_at R (at h ys) (h.val ∷ [])) (tt, (tt, tt)) p $ fjoin t $
+      move t (2 ∷ 3 ∷ []) $ fjoin t $ move t (2 ∷ 0 ∷ []) $ fjoin t $ pure_i t (mut_slice_at R (mut_at h ys) (h.val ∷ [])) (tt, (tt, tt)) p $ fjoin t $
       move t (1 ∷ 0 ∷ []) $ k (p.1, p.0))
 
   -- and closed, at a list as long
   pub closed : K → Soaks G → (R : RattleType) (h : Loan) (ys zs : List R.Denot) → length zs ≡ length ys
       → Step K 𝓛 (‵ (In (mut_slice R) h zs) ∷ Γ) G (‵ (row R full_share zs h.block h.off) ∷ ‵ (Open R h ys) ∷ Γ) G
-  closed t z R h ys zs e = step (λ s. move t (1 ∷ []) $ fsplit t $ pure_l t (shr_slice_at R (at h ys) (h.val ∷ [])) (λ p. fsplit t $ move t (1 ∷ []) $ fsplit t $
+  closed t z R h ys zs e = step (λ s. move t (1 ∷ []) $ fsplit t $ pure_l t (mut_slice_at R (mut_at h ys) (h.val ∷ [])) (λ p. fsplit t $ move t (1 ∷ []) $ fsplit t $
       move t (3 ∷ 2 ∷ 0 ∷ 1 ∷ []) $
       closes_slice t z R ys zs e h.block h.off $ fjoin t $
-      pure_i t (shr_slice_at R (at h zs) (h.val ∷ [])) (tt, (tt, tt)) (
+      pure_i t (mut_slice_at R (mut_at h zs) (h.val ∷ [])) (tt, (tt, tt)) (
         p.0 ∙ ap (λ (m : ℕ). slice_val (h.block, h.off) m ∷ []) (sym e),
         subst (Room R) (sym e)
             p.1,
@@ -74,33 +99,40 @@ module _ {M : Type 1} {𝓤 : Ura M} {𝓛 : Logic 𝓤} {K : Type 0} {Γ : List
   lends_slice t z R h ys k =
       opened t z R h ys (λ p. use1 𝓛 (‵ (cells (mem R) ys h.block h.off)) (whole_in 𝓛 R ys h.block h.off) $
       lft_new t z (λ ν. move t (1 ∷ []) $
-      use1 𝓛 (later (some (λ (δ : GName). ‵ ((MutSlice (named 0) (ν ∷ []) R).own_val (at (relent h ν δ) ys) (mut_slice_vals (at h ys))) ⊛ ‵
+      use1 𝓛 (later (some (λ (δ : GName). ‵ ((MutSlice (named 0) (ν ∷ []) R).own_val (mut_at (relent h ν δ) ys) (mut_slice_vals (mut_at h ys))) ⊛ ‵
       (flent (ν ∷ []) (Held R (length ys) h.block h.off δ)))))
       (slice-lent 𝓛 R (named 0) (ν ∷ []) ys h.block h.off p.0) $ await t z $ pick t (λ δ. split t $
       -- [the new slice; the lender's part; the new token; the open borrow]
-      rewrite t 0 (λ (vs : List Val). ‵ ((MutSlice (named 0) (ν ∷ []) R).own_val (at (relent h ν δ) ys) vs)) (sym p.1) refl $ move t (1 ∷ 3 ∷ []) $ fjoin t $
+      rewrite t 0 (λ (vs : List Val). ‵ ((MutSlice (named 0) (ν ∷ []) R).own_val (mut_at (relent h ν δ) ys) vs)) (sym p.1) refl $ move t (1 ∷ 3 ∷ []) $ fjoin t $
       move t (1 ∷ 2 ∷ []) $ fjoin t $ k ν δ)))
 
   pub back-slice : K → Soaks G → (R : RattleType) (h : Loan) (ys zs : List R.Denot) (ν : ℕ) (δ : GName) → length zs ≡ length ys
       → Step K 𝓛 (‵ (In (mut_slice R) h zs) ∷ Γ) G (‵ (Out (mut_slice R) (relent h ν δ) zs) ∷ ‵ (WaitsSlice R h ys ν δ) ∷ Γ) G
-  back-slice t z R h ys zs ν δ e = step (λ s. fsplit t $ move t (1 ∷ 0 ∷ []) $ lft_end t z $ move t (2 ∷ []) $ fsplit t $ move t (2 ∷ 0 ∷ 3 ∷ []) $
+  back-slice t z R h ys zs ν δ e = step (λ s. fsplit t $ fsplit t $ move t (1 ∷ []) $ drop t $ move t (1 ∷ 0 ∷ []) $ lft_end t z $ move t (2 ∷ []) $ fsplit t $ move t (2 ∷ 0 ∷ 3 ∷ []) $
       use3 𝓛 (later (‵ ((Arr (mem R) (length ys)).own_at zs h.block h.off))) (slice_back 𝓛 R (ν ∷ []) δ zs (length ys) h.block h.off) $
       await t z $ fsplit t $ drop t $
       use1 𝓛 (‵ (row R full_share zs h.block h.off)) (whole_out 𝓛 R zs h.block h.off) $ closed t z R h ys zs e $ s)
 
-  pub shares-slice : K → Soaks G → (R : RattleType) (h : Loan) (ys : List R.Denot)
-      → ((ν : ℕ) (δ : GName) → Seq K 𝓛 (‵ (In (shr_slice R) (relent h ν δ) ys) ∷ ‵ (WaitsShared R h ys ν) ∷ Γ) G) → Seq K 𝓛 (‵ (In (mut_slice R) h ys) ∷ Γ) G
-  shares-slice t z R h ys k =
-      opened t z R h ys (λ p. feq_i t ℕ (length ys) (length ys) refl $ fjoin t $ lft_new t z (λ ν. move t (1 ∷ []) $
-      use1 𝓛 (later (some (λ (δ : GName). ‵ ((ShrSlice (named 0) (ν ∷ []) R).own_val (at (relent h ν δ) ys) (shr_slice_vals (at h ys))) ⊛ ‵
-      (flent (ν ∷ []) ((arr_parts (shares R) (length ys)).part full_share ys h.block h.off)))))
-      (lends_shr_slice 𝓛 R (named 0) (ν ∷ []) full_share ys h.block h.off p.0) $ await t z $ pick t (λ δ. split t $
-      rewrite t 0 (λ (vs : List Val). ‵ ((ShrSlice (named 0) (ν ∷ []) R).own_val (at (relent h ν δ) ys) vs)) (sym p.1) refl $ move t (1 ∷ 3 ∷ []) $ fjoin t $
-      move t (1 ∷ 2 ∷ []) $ fjoin t $ k ν δ)))
+module _ {M : Type 1} {𝓤 : Ura M} {𝓛 : Logic 𝓤} {K : Type 0} {Γ : List (Item 𝓤)} {G : Goal 𝓤 𝓛.H} where
+  pub shares-slice : K → Soaks G → (R : RattleType) (L : RowLaws R) (l : Lft) → Shares 𝓛 R l → (ts : Toks) → Incl (span ts) l → (h : Loan) (ys : List R.Denot)
+      → ((ν : ℕ) (δ : GName) → Seq K 𝓛 (‵ (In (shr_slice R L) (relent h ν δ) ys) ∷ ‵ (WaitsShared R h ys ν) ∷ raw (lfts 𝓛 ts) ∷ Γ) G)
+      → Seq K 𝓛 (‵ (In (mut_slice R) h ys) ∷ raw (lfts 𝓛 ts) ∷ Γ) G
+  shares-slice t z R L l sh ts inc h ys k =
+      opened t z R h ys (λ p. feq_i t ℕ (length ys) (length ys) refl $ fjoin t $ lft_new t z (λ ν. move t (0 ∷ 3 ∷ []) $
+      use2 𝓛 (raw (lfts 𝓛 (beside-new ν ts))) (joins-new 𝓛 ν ts) $ move t (1 ∷ 0 ∷ []) $
+      use2 𝓛 (later ((‵ ((ShrSlice (named 0) (ν ∷ []) R).own_val (shr_at h ys) (mut_slice_vals (mut_at h ys))) ⊛ ‵
+      (flent (ν ∷ []) ((arr_parts (shares R) (length ys)).part full_share ys h.block h.off))) ⊛ raw (lfts 𝓛 (beside-new ν ts))))
+      (lends_shr_slice 𝓛 R (named 0) (ν ∷ []) full_share ys h.block h.off p.0 l sh (beside-new ν ts) (Incl-trans (others-within ν ts) inc) (new-within ν ts)) $
+      await t z $ split t $ split t $ move t (2 ∷ []) $
+      use1 𝓛 (‵ (flft (ν ∷ []) full_share) ⊛ raw (lfts 𝓛 ts)) (parts-new 𝓛 ν ts) $ split t $
+      -- [the new token; the other tokens; the slice; the lender's part; the open borrow]
+      move t (2 ∷ 0 ∷ []) $
+      rewrite t 0 (λ (vs : List Val). ‵ ((ShrSlice (named 0) (ν ∷ []) R).own_val (shr_at h ys) vs)) (sym p.1) refl $ fjoin t $
+      move t (2 ∷ 3 ∷ []) $ fjoin t $ move t (1 ∷ 0 ∷ []) $ k ν h.name))
 
-  pub unshares-slice : K → Soaks G → (R : RattleType) (h : Loan) (ys : List R.Denot) (ν : ℕ) (δ : GName)
-      → Step K 𝓛 (‵ (In (mut_slice R) h ys) ∷ Γ) G (‵ (Out (shr_slice R) (relent h ν δ) ys) ∷ ‵ (WaitsShared R h ys ν) ∷ Γ) G
-  unshares-slice t z R h ys ν δ = step (λ s. fsplit t $ drop t $ lft_end t z $ move t (1 ∷ []) $ fsplit t $ move t (2 ∷ 0 ∷ []) $ lent_back t z $ fsplit t $
+  pub unshares-slice : K → Soaks G → (R : RattleType) (L : RowLaws R) (h : Loan) (ys : List R.Denot) (ν : ℕ) (δ : GName)
+      → Step K 𝓛 (‵ (In (mut_slice R) h ys) ∷ Γ) G (‵ (Out (shr_slice R L) (relent h ν δ) ys) ∷ ‵ (WaitsShared R h ys ν) ∷ Γ) G
+  unshares-slice t z R L h ys ν δ = step (λ s. fsplit t $ drop t $ lft_end t z $ move t (1 ∷ []) $ fsplit t $ move t (2 ∷ 0 ∷ []) $ lent_back t z $ fsplit t $
       drop t $ closed t z R h ys ys refl $ s)
 
 -- ---- references to one value
@@ -116,45 +148,51 @@ module _ (R : RattleType) (h : Loan) (x : R.Denot) where
   WaitsSharedRef ν = fsep (flent (ν ∷ []) (part_at R full_share x h.block h.off)) OpenRef
 
 module _ {M : Type 1} {𝓤 : Ura M} {𝓛 : Logic 𝓤} {K : Type 0} {Γ : List (Item 𝓤)} {G : Goal 𝓤 𝓛.H} where
-  pub opened-ref : K → Soaks G → (R : RattleType) (h : Loan) (x : R.Denot) → (h.val ∷ [] ≡ shr_vals (at h x)
+  pub opened-ref : K → Soaks G → (R : RattleType) (h : Loan) (x : R.Denot) → (h.val ∷ [] ≡ mut_vals (mut_at h x)
       → Seq K 𝓛 (‵ ((mem R).own_at x h.block h.off) ∷ ‵ (OpenRef R h x) ∷ Γ) G)
       → Seq K 𝓛 (‵ (In (mut_ref R) h x) ∷ Γ) G
   opened-ref t z R h x k = fsplit t $ fsplit3 t $ feq_l t (λ p. open_ref t z (mem R) $ move t (2 ∷ 3 ∷ []) $ fjoin t $ move t (2 ∷ 0 ∷ []) $ fjoin t $
       move t (1 ∷ 0 ∷ []) $ k p)
 
-  pub closed-ref : K → Soaks G → (R : RattleType) (h : Loan) (x y : R.Denot) → h.val ∷ [] ≡ shr_vals (at h x)
+  pub closed-ref : K → Soaks G → (R : RattleType) (h : Loan) (x y : R.Denot) → h.val ∷ [] ≡ mut_vals (mut_at h x)
       → Step K 𝓛 (‵ (In (mut_ref R) h y) ∷ Γ) G (‵ ((mem R).own_at y h.block h.off) ∷ ‵ (OpenRef R h x) ∷ Γ) G
   closed-ref t z R h x y p = step (λ s. move t (1 ∷ []) $ fsplit3 t $ move t (3 ∷ 0 ∷ 1 ∷ 2 ∷ []) $ close_ref t z (mem R) y $ feq_i t (List Val) (h.val ∷ [])
-      (shr_vals (at h y)) p $ fjoin3 t $ fjoin t $ s)
+      (mut_vals (mut_at h y)) p $ fjoin3 t $ fjoin t $ s)
 
   pub lends_ref : K → Soaks G → (R : RattleType) (h : Loan) (x : R.Denot)
-      → (h.val ∷ [] ≡ mut_vals (at h x) → (ν : ℕ) (δ : GName) → Seq K 𝓛 (‵ (In (mut_ref R) (relent h ν δ) x) ∷ ‵ (WaitsRef R h x ν δ) ∷ Γ) G)
+      → (h.val ∷ [] ≡ mut_vals (mut_at h x) → (ν : ℕ) (δ : GName) → Seq K 𝓛 (‵ (In (mut_ref R) (relent h ν δ) x) ∷ ‵ (WaitsRef R h x ν δ) ∷ Γ) G)
       → Seq K 𝓛 (‵ (In (mut_ref R) h x) ∷ Γ) G
   lends_ref t z R h x k =
       opened-ref t z R h x (λ p. lft_new t z (λ ν. move t (1 ∷ []) $
-      use1 𝓛 (later (some (λ (δ : GName). ‵ ((MutRef (named 0) (ν ∷ []) R).own_val (at (relent h ν δ) x) (mut_vals (at h x))) ⊛ ‵
+      use1 𝓛 (later (some (λ (δ : GName). ‵ ((MutRef (named 0) (ν ∷ []) R).own_val (mut_at (relent h ν δ) x) (mut_vals (mut_at h x))) ⊛ ‵
       (flent (ν ∷ []) (Body (mem R) h.block h.off δ)))))
       (ref-lent 𝓛 R (named 0) (ν ∷ []) x h.block h.off) $ await t z $ pick t (λ δ. split t $
-      rewrite t 0 (λ (vs : List Val). ‵ ((MutRef (named 0) (ν ∷ []) R).own_val (at (relent h ν δ) x) vs)) (sym p) refl $ move t (1 ∷ 3 ∷ []) $ fjoin t $
+      rewrite t 0 (λ (vs : List Val). ‵ ((MutRef (named 0) (ν ∷ []) R).own_val (mut_at (relent h ν δ) x) vs)) (sym p) refl $ move t (1 ∷ 3 ∷ []) $ fjoin t $
       move t (1 ∷ 2 ∷ []) $ fjoin t $ k p ν δ)))
 
-  pub back-ref : K → Soaks G → (R : RattleType) (h : Loan) (x y : R.Denot) (ν : ℕ) (δ : GName) → h.val ∷ [] ≡ mut_vals (at h x)
+  pub back-ref : K → Soaks G → (R : RattleType) (h : Loan) (x y : R.Denot) (ν : ℕ) (δ : GName) → h.val ∷ [] ≡ mut_vals (mut_at h x)
       → Step K 𝓛 (‵ (In (mut_ref R) h y) ∷ Γ) G (‵ (Out (mut_ref R) (relent h ν δ) y) ∷ ‵ (WaitsRef R h x ν δ) ∷ Γ) G
-  back-ref t z R h x y ν δ p = step (λ s. fsplit t $ move t (1 ∷ 0 ∷ []) $ lft_end t z $ move t (2 ∷ []) $ fsplit t $ move t (2 ∷ 0 ∷ 3 ∷ []) $
+  back-ref t z R h x y ν δ p = step (λ s. fsplit t $ fsplit t $ move t (1 ∷ []) $ drop t $ move t (1 ∷ 0 ∷ []) $ lft_end t z $ move t (2 ∷ []) $ fsplit t $ move t (2 ∷ 0 ∷ 3 ∷ []) $
       use3 𝓛 (later (‵ ((mem R).own_at y h.block h.off))) (ref_back 𝓛 R (ν ∷ []) δ y h.block h.off) $ await t z $ closed-ref t z R h x y p $ s)
 
-  pub shares-ref : K → Soaks G → (R : RattleType) (h : Loan) (x : R.Denot)
-      → (h.val ∷ [] ≡ shr_vals (at h x) → (ν : ℕ) (δ : GName) → Seq K 𝓛 (‵ (In (shr_ref R) (relent h ν δ) x) ∷ ‵ (WaitsSharedRef R h x ν) ∷ Γ) G)
-      → Seq K 𝓛 (‵ (In (mut_ref R) h x) ∷ Γ) G
-  shares-ref t z R h x k =
-      opened-ref t z R h x (λ p. lft_new t z (λ ν. move t (1 ∷ []) $
-      use1 𝓛 (later (some (λ (δ : GName). ‵ ((ShrRef (named 0) (ν ∷ []) R).own_val (at (relent h ν δ) x) (shr_vals (at h x))) ⊛ ‵
-      (flent (ν ∷ []) (part_at R full_share x h.block h.off)))))
-      (lends_shr 𝓛 R (named 0) (ν ∷ []) full_share x h.block h.off) $ await t z $ pick t (λ δ. split t $
-      rewrite t 0 (λ (vs : List Val). ‵ ((ShrRef (named 0) (ν ∷ []) R).own_val (at (relent h ν δ) x) vs)) (sym p) refl $ move t (1 ∷ 3 ∷ []) $ fjoin t $
-      move t (1 ∷ 2 ∷ []) $ fjoin t $ k p ν δ)))
+module _ {M : Type 1} {𝓤 : Ura M} {𝓛 : Logic 𝓤} {K : Type 0} {Γ : List (Item 𝓤)} {G : Goal 𝓤 𝓛.H} where
+  pub shares-ref : K → Soaks G → (R : RattleType) (L : RowLaws R) (l : Lft) → Shares 𝓛 R l → (ts : Toks) → Incl (span ts) l → (h : Loan) (x : R.Denot)
+      → (h.val ∷ [] ≡ mut_vals (mut_at h x) → (ν : ℕ) (δ : GName)
+      → Seq K 𝓛 (‵ (In (shr_ref R L) (relent h ν δ) x) ∷ ‵ (WaitsSharedRef R h x ν) ∷ raw (lfts 𝓛 ts) ∷ Γ) G)
+      → Seq K 𝓛 (‵ (In (mut_ref R) h x) ∷ raw (lfts 𝓛 ts) ∷ Γ) G
+  shares-ref t z R L l sh ts inc h x k =
+      opened-ref t z R h x (λ p. lft_new t z (λ ν. move t (0 ∷ 3 ∷ []) $
+      use2 𝓛 (raw (lfts 𝓛 (beside-new ν ts))) (joins-new 𝓛 ν ts) $ move t (1 ∷ 0 ∷ []) $
+      use2 𝓛 (later ((‵ ((ShrRef (named 0) (ν ∷ []) R).own_val (shr_at h x) (mut_vals (mut_at h x))) ⊛ ‵
+      (flent (ν ∷ []) (part_at R full_share x h.block h.off))) ⊛ raw (lfts 𝓛 (beside-new ν ts))))
+      (lends_shr 𝓛 R (named 0) (ν ∷ []) full_share x h.block h.off l (sh x) (beside-new ν ts) (Incl-trans (others-within ν ts) inc) (new-within ν ts)) $
+      await t z $ split t $ split t $ move t (2 ∷ []) $
+      use1 𝓛 (‵ (flft (ν ∷ []) full_share) ⊛ raw (lfts 𝓛 ts)) (parts-new 𝓛 ν ts) $ split t $
+      move t (2 ∷ 0 ∷ []) $
+      rewrite t 0 (λ (vs : List Val). ‵ ((ShrRef (named 0) (ν ∷ []) R).own_val (shr_at h x) vs)) (sym p) refl $ fjoin t $
+      move t (2 ∷ 3 ∷ []) $ fjoin t $ move t (1 ∷ 0 ∷ []) $ k p ν h.name))
 
-  pub unshares-ref : K → Soaks G → (R : RattleType) (h : Loan) (x : R.Denot) (ν : ℕ) (δ : GName) → h.val ∷ [] ≡ mut_vals (at h x)
-      → Step K 𝓛 (‵ (In (mut_ref R) h x) ∷ Γ) G (‵ (Out (shr_ref R) (relent h ν δ) x) ∷ ‵ (WaitsSharedRef R h x ν) ∷ Γ) G
-  unshares-ref t z R h x ν δ p = step (λ s. fsplit t $ drop t $ lft_end t z $ move t (1 ∷ []) $ fsplit t $ move t (2 ∷ 0 ∷ []) $ lent_back t z $
+  pub unshares-ref : K → Soaks G → (R : RattleType) (L : RowLaws R) (h : Loan) (x : R.Denot) (ν : ℕ) (δ : GName) → h.val ∷ [] ≡ mut_vals (mut_at h x)
+      → Step K 𝓛 (‵ (In (mut_ref R) h x) ∷ Γ) G (‵ (Out (shr_ref R L) (relent h ν δ) x) ∷ ‵ (WaitsSharedRef R h x ν) ∷ Γ) G
+  unshares-ref t z R L h x ν δ p = step (λ s. fsplit t $ drop t $ lft_end t z $ move t (1 ∷ []) $ fsplit t $ move t (2 ∷ 0 ∷ []) $ lent_back t z $
       closed-ref t z R h x x p $ s)

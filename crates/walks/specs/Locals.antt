@@ -9,24 +9,24 @@
 --     if-then          an `if` with no `else`
 -- For a loop:  tests, breaks    the tests of a `while` and of an `if c { break; }`.        by_size, by-size-wf      an order on any state, by a number
 -- Assumes `Logic`.
-use Rattle.std.specs.Prelude.{ℕ, zero, suc, ◌+◌, ◌<◌, ◌≡◌, refl, Bool, not, List, [], ◌∷◌, T}
-use Rattle.std.proofs.Common.{sym, ap, subst}
-use Rattle.std.proofs.Math.Option.{Option, some, none}
+use Rattle.std.specs.Prelude.{ℕ, zero, ◌+◌, ◌<◌, ◌≡◌, refl, Bool, not, List, [], ◌∷◌, T}
+use Rattle.std.proofs.Common.{sym, subst}
+use Rattle.std.proofs.Math.Option.{Option, some}
 use mathlib.Core.WellFounded.InvImage
 use mathlib.Core.WellFounded.{WellFounded}
 use lib.WfN.{lt-wf_rel}
 use seplogic.Ra.Ura.{Ura}
-use seplogic.Ra.TreeShare.{full_share}
-use mir.Syntax.{Sym, Lifetime, Mutability, Ty, Tys, ty_int, ty_ref, ty_struct, tnil, tcons, Rv as RValue, rv_opd, addr_of, aggregate, assign, field, deref, Opd as Operand, copy, place, Body, seq, cond, skip, exit, return, w64}
-use mir.Val.{Val, Vals, vbool, vint, vptr, vstruct, vnil, vcons, WT, has_ty}
+use base.Fraction.{full_share}
+use mir.Syntax.{Sym, Lifetime, Mutability, Ty, Tys, ty_int, ty_ref, ty_struct, Rv as RValue, addr_of, aggregate, assign, field, deref, Opd as Operand, copy, place, Body, seq, cond, skip, exit, return, w64}
+use mir.Val.{Val, Vals, vbool, vptr, vstruct, WT, has_ty}
 use mir.Fields.{get_v, set_v}
 use prog.Memory.{field_at, field_of}
 use prog.Wp.{Calls, Loops, Wp, after_seq, exits, next}
 use base.Logic.{SProp}
 use types.Logic.{Logic}
-use types.Kit.{Item, nth, del, put, Post, post, any_q, at_ret, Goal, prop, runs, lands, frees, Seq, Step, step, ◌$◌}
+use types.Kit.{Item, nth, del, put, Post, post, any_q, at_ret, prop, runs, lands, Seq, Step, step, ◌$◌}
 use types.Part.{Part, agg, sub, look_in, store_in}
-use types.Run.{Reads, Opd, Rv, load, from, stop, fld, hop, addr, and_then, no_more, assigns, assigns_last, land, returns, returns_within, first, branches, skips, jumps}
+use types.Run.{Reads, Opd, Rv, load, from, stop, fld, hop, addr, and_then, no_more, assigns, assigns_last, land, returns, first, branches, skips, jumps}
 use denote.Slice.{slice_ty, slice_val}
 use Rattle.walks.specs.Frames.{env_at, get, replace, Among, type_of, block_of, fr, cell-of, writes_local, frees_all}
 

@@ -6,7 +6,7 @@ use Rattle.std.specs.Prelude.{ℕ, zero, suc, ◌≡◌, not, List, [], ◌∷�
 use Rattle.std.proofs.Common.{subst}
 use Rattle.std.proofs.Math.Option.{Option, some}
 use seplogic.Ra.Ura.{Ura}
-use seplogic.Ra.TreeShare.{full_share}
+use base.Fraction.{full_share}
 use mir.Syntax.{Sym, Ty, Tys, Tyss, ty_int, ty_enum, w8, variant, field, Opd as Operand, copy, place, Body, seq, switch, arm, no_default}
 use mir.Val.{Val, Vals, vint, has_key}
 use mir.Fields.{get_v}

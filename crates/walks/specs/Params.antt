@@ -11,20 +11,19 @@
 --     arrives          the way into a function: the tokens and what its parameters own are the entries.        hands-back       the way out: the last entries
 --         give what the function has at exit
 -- Assumes `Logic`.
-use Rattle.std.specs.Prelude.{◌≡◌, refl, ℕ, zero, suc, List, [], ◌∷◌}
+use Rattle.std.specs.Prelude.{ℕ, zero, suc, List, [], ◌∷◌}
 use seplogic.Ra.Ura.{Ura}
-use mir.Syntax.{Lifetime, named}
+use mir.Syntax.{named}
 use mir.Val.{Val}
-use base.Logic.{SProp, ent, sep, emp, guard, id⊢, via, mono∗, mono_l, mono_r, fst∗, snd∗, emp∗, comm∗, guard_e, guard_i, ex∗}
+use base.Logic.{SProp, ent, sep, emp, guard, via, mono∗, mono_l, mono_r, fst∗, snd∗, emp∗, comm∗, guard_i, ex∗}
 use Rattle.std.specs.Borrow.{Fml, ftrue, fsep}
 use contract.Lifetimes.{Lfts, Shares, toks}
 use types.Logic.{Logic, sem}
-use types.Kit.{Item, ‵, raw, ◌⊛◌, given, mean, ⋆, pop, push, ◌$◌, ◌∵◌, !, qed, move, keep, drop, split, split3, join, learn, use1, fsplit, fsplit3, fjoin, fjoin3, check, frame, done}
+use types.Kit.{Item, ‵, raw, ◌⊛◌, mean, ⋆, pop, push, ◌$◌, ◌∵◌, !, qed, move, split, split3, join, done}
 use denote.RattleType.{RattleType, Denots, Valss, owns}
 use denote.Exit.{yes, Last, left}
-use denote.Steps.{nothing}
 use Rattle.walks.specs.Data.{Datum, Good}
-use Rattle.walks.specs.Loans.{Loan, Kind, Value, row, ref, token, owned, In, Said, Out, Kept, Bound, left-of, last_of, Same, enters, leaves}
+use Rattle.walks.specs.Loans.{Loan, Kind, Value, row, ref, token, owned, In, Out, Kept, Bound, left-of, last_of, Same, enters, leaves}
 
 pub data Par : Type 2 where
   dat : (D : Datum) → D.type.Denot → Par
@@ -131,7 +130,7 @@ module _ {M : Type 1} {𝓤 : Ura M} (𝓛 : Logic 𝓤) where
 
     pub passes : (j : ℕ) (ps : List Par) → Goods ps → ent 𝓤 (⋆ 𝓛 (ins 𝓤 ps)) ((alive ps ∗ owning j ps) ∗ ⟦ kepts ps ⟧)
     passes j [] r = via 𝓤 (emp 𝓤 ∗ emp 𝓤) (emp∗ 𝓤 (emp 𝓤)) (mono_l 𝓤 (emp 𝓤) (emp∗ 𝓤 (emp 𝓤)))
-    passes j (dat D x ∷ ps) r = via 𝓤 ((alive ps ∗ owning j ps) ∗ ⟦ kepts ps ⟧) (passes j ps r.1) (with-datum ⟦ D.type.own x (D.val x ∷ []) ⟧ (alive ps)
+    passes j (dat D x ∷ ps) r = via 𝓤 ((alive ps ∗ owning j ps) ∗ ⟦ kepts ps ⟧) (passes j ps r.1) (with-datum ⟦ D.type.own_val x (D.val x ∷ []) ⟧ (alive ps)
         (owning j ps) ⟦ kepts ps ⟧ (D.makes 𝓛 x (D.val x ∷ []) r.0))
     passes j (brw k h y ∷ ps) r =
         via 𝓤 (⟦ In k h y ⟧ ∗ ⋆ 𝓛 (ins 𝓤 ps)) (pop 𝓛 (‵ (In k h y)) (ins 𝓤 ps))
