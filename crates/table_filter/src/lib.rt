@@ -1,5 +1,7 @@
 // Which pairs may have the key of one before them. Each pair has three bits set in a word that its hash chooses: where one of them
 // is clear, no pair before has its key. The others are suspected, and their bits are set among the marks, in fewer words.
+#![tactic(auto)]
+
 ghost use Rattle.std.specs.Prelude.{◌≡◌, true, ℕ, ◌+◌, ◌*◌, ◌≤◌, ◌<◌, length, get_or, set};
 ghost use Rattle.table_hash.specs.Hashes.{hash_at, bucket};
 ghost use Rattle.table_filter.specs.Filter.{covers, join, suspected, OfClass, Cleared, Inserted};

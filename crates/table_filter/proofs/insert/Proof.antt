@@ -23,7 +23,7 @@ abbrev Next : tie.Start → List ℕ → List ℕ → Type 0
 Next s = Inserted s.args.whole s.args.table.now s.args.classes s.args.class (s.args.i + 1)
 
 -- what is asked: the pairs before are inserted
-abbrev inserted : (s : tie.Start) → Inserted s.args.whole s.args.table.now s.args.classes s.args.class s.args.i s.args.seen-1.now s.args.marks-1.now
+abbrev inserted : (s : tie.Start) → Inserted s.args.whole s.args.table.now s.args.classes s.args.class s.args.i s.args.seen.now s.args.marks.now
 inserted s = s.requires.1.1
 
 abbrev begin_of : tie.After-mask_of-mask → tie.Start
@@ -67,13 +67,13 @@ first c = start_of (word_of c).before
 -- for a pair of the class: the test of its bits
 tested :
     (c : tie.After-is_covered) → own (word_of c).before ≡ true →
-    c.is_covered.result ≡ covers (get_or (first c).args.seen-1.now (bucket_at 28160 (first c).args.whole (first c).args.table.now (first c).args.i) 0) (mask_at (first c).args.whole (first c).args.table.now (first c).args.i)
-tested c e = c.is_covered.ensures ∙ ap₂ (λ (q m : ℕ). covers (get_or (first c).args.seen-1.now q 0) m) (seen-is (word_of c) e) (mask_is (word_of c).before.before)
+    c.is_covered.result ≡ covers (get_or (first c).args.seen.now (bucket_at 28160 (first c).args.whole (first c).args.table.now (first c).args.i) 0) (mask_at (first c).args.whole (first c).args.table.now (first c).args.i)
+tested c e = c.is_covered.ensures ∙ ap₂ (λ (q m : ℕ). covers (get_or (first c).args.seen.now q 0) m) (seen-is (word_of c) e) (mask_is (word_of c).before.before)
 
 done :
     (c : tie.After-is_covered) (after : List ℕ) → Grown (inserted (first c)) after →
     (Mine (first c) → Cleared (first c).args.whole (first c).args.table.now 1 after (first c).args.i) →
-    Next (first c) (put_of c).put.new.0 after
+    Next (first c) (put_of c).put.new.bits after
 done c after g cleared = go (own k) refl
   where
     s : tie.Start
@@ -82,10 +82,10 @@ done c after g cleared = go (own k) refl
     k : tie.After-class_of
     k = (word_of c).before
 
-    go : (b : Bool) → own k ≡ b → Next s (put_of c).put.new.0 after
+    go : (b : Bool) → own k ≡ b → Next s (put_of c).put.new.bits after
     go true e =
         subst (λ (seen : List ℕ). Next s seen after)
-        (sym ((put_of c).put.ensures ∙ ap₂ (put_in s.args.seen-1.now) (seen-is (word_of c) e) ((put_of c).before.mask_for.ensures e ∙ mask_is k.before)))
+        (sym ((put_of c).put.ensures ∙ ap₂ (put_in s.args.seen.now) (seen-is (word_of c) e) ((put_of c).before.mask_for.ensures e ∙ mask_is k.before)))
         (insert-next (inserted s) after g (cleared (own-mine k e)))
     go false e =
         subst (λ (seen : List ℕ). Next s seen after) (sym (put_of c).put.ensures)
@@ -98,10 +98,10 @@ returns c =
     let k = spot.before.before.before in
     let s = first k in
     let ws = s.args.table.now in
-    let marks = s.args.marks-1.now in
+    let marks = s.args.marks.now in
     let marked : spot.mark_of.result ≡ mark_at s.args.whole ws s.args.i = spot.mark_of.ensures.0 ∙ ap mark_of (word_of k).before.before.before.hash-h.ensures in
     let fits : mark_at s.args.whole ws s.args.i < length marks = subst (λ (q : ℕ). q < length marks) marked (omega (arith, spot.mark_of.ensures.1, (inserted s).mark-words)) in
-    subst (Next s (put_of k).put.new.0) (sym (p.put-then-is_covered.ensures ∙ ap₂ (put_in marks) marked (mask_is (word_of k).before.before)))
+    subst (Next s (put_of k).put.new.bits) (sym (p.put-then-is_covered.ensures ∙ ap₂ (put_in marks) marked (mask_is (word_of k).before.before)))
     (done k (put_in marks (mark_at s.args.whole ws s.args.i) (mask_at s.args.whole ws s.args.i))
     (grown-put (inserted s) (mark_at s.args.whole ws s.args.i) (mask_at s.args.whole ws s.args.i)) (λ m. inr (suspected-own s.args.whole ws marks s.args.i fits)))
 
@@ -109,7 +109,7 @@ returns-2 : tie.Need-returns-else-is_covered
 returns-2 c =
     let k = c.before in
     let s = first k in
-    done k s.args.marks-1.now (grown-same (inserted s)) (λ m. inl (fresh (inserted s) m
+    done k s.args.marks.now (grown-same (inserted s)) (λ m. inl (fresh (inserted s) m
     (sym (tested k (mine-own (word_of k).before m)) ∙ c.if-is_covered.false)))
 
 pub insert_spec : {M : Type 1} → statement M
