@@ -1,5 +1,7 @@
 // The groups of a list's places in slots, from a slot that a hash gives on to the first empty one. A slot has 16 bits: with three or four
 // slots for each place a search seldom goes past the first.
+#![tactic(auto)]
+
 ghost use Rattle.std.specs.Prelude.{◌≡◌, ℕ, ◌+◌, ◌*◌, ◌≤◌, ◌<◌, length, get_or, replicate};
 ghost use Rattle.table_places.specs.Places.{number_in, places_in, Rising};
 ghost use Rattle.table_probes.specs.Ring.{next as nextSlot};

@@ -13,14 +13,14 @@ use Rattle.table_index.proofs.enter.Tie as tie
 
 natural_at-requires : tie.Need-natural_at-requires
 natural_at-requires c κs =
-    let s = c.before.before in
+    let s = c.before in
     let (rising, (there, more)) = s.requires in
     (omega arith, rising.groups s.args.k there)
 
 returns : tie.Need-returns
 returns c =
     let g = c.before in
-    let s = g.before.before.before in
+    let s = g.before.before in
     let (rising, (there, (near, (wide, (most, index))))) = s.requires in
     let slots = s.args.slots.now in
     rw (add-one s.args.k)

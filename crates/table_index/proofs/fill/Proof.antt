@@ -30,7 +30,7 @@ loop-holds c =
       omega arith,
       refl,
       refl,
-      subst (λ (l : List ℕ). Indexed places 0 l) (sym empty) (indexed-none places (length s.args.slots-1.now) (omega arith)),
+      subst (λ (l : List ℕ). Indexed places 0 l) (sym empty) (indexed-none places (length s.args.slots.now) (omega arith)),
       λ p l. absurd (omega arith),
     )
 
@@ -50,7 +50,7 @@ loop-again c =
     let e = c.before.before.before in
     let l = e.before.before.before in (
       omega arith,
-      e.enter.auto.1.1.0 ∙ l.loop-k.invariant.1,
+      e.enter.auto.slots ∙ l.loop-k.invariant.1,
       simp length-set l.loop-k.invariant.2,
       e.enter.ensures,
       numbers_more (start_of l).args.places.now l.loop-k.lefts l.loop-k.k c.natural_at.result (omega arith) c.natural_at.ensures.0 l.loop-k.invariant.4,
@@ -61,7 +61,7 @@ returns c =
     let l = c.before in
     let places = (start_of l).args.places.now in
     let e : l.loop-k.k ≡ places_in places = omega arith in
-    (subst (λ (k : ℕ). Indexed places k l.loop-k.slots-1) e l.loop-k.invariant.3, λ p b. l.loop-k.invariant.4 p (omega arith))
+    (subst (λ (k : ℕ). Indexed places k l.loop-k.slots) e l.loop-k.invariant.3, λ p b. l.loop-k.invariant.4 p (omega arith))
 
 pub fill_spec : {M : Type 1} → statement M
 fill_spec =
