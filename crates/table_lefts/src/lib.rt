@@ -1,6 +1,8 @@
 // Each pair of the table takes one from the number of its group's place. Slots hold the places of a window of the list, all of it where the
 // list is short. A pair whose group has no place there is passed over: where all numbers come to 0, and together are as many as the pairs,
 // there is none.
+#![tactic(auto)]
+
 ghost use Rattle.std.specs.Prelude.{◌≡◌, true, false, ℕ, ◌*◌, ◌≤◌, ◌<◌, length, get_or, replicate};
 ghost use Rattle.language.specs.Table.{numbers_right};
 ghost use Rattle.table_places.specs.Places.{places_in, Rising};

@@ -4,7 +4,6 @@ use mathlib.Core.Path.{◌≡◌, refl, sym, ◌∙◌, subst}
 use native.Mathlib.Numerals.{add-one}
 use native.Mathlib.Omega.{arith}
 use borrow.Author.Rules.{rules}
-use borrow.Author.Tests.{not-true, not-false}
 use lib.IntN.{nat_abs}
 use lib.ListN.{length}
 use Rattle.laws.specs.Tests.{never}
@@ -62,8 +61,8 @@ returns c =
     let (words, (right, (rising, more))) = s.requires in (
       λ e. never e refl,
       λ e tallied.
-          exhausted-wrong s.args.table.now s.args.places.now rising l.loop-i.i (omega arith) (natural k.before.before.before) l.loop-i.lefts-1 s.args.count (omega arith) words
-          (subst (λ (g : ℕ). Exhausted s.args.places.now g l.loop-i.lefts-1) (handed k) (k.lower.ensures.1 (not-true _ c.if-not-lower.true)))
+          exhausted-wrong s.args.table.now s.args.places.now rising l.loop-i.i (omega arith) (natural k.before.before.before) l.loop-i.lefts s.args.count (omega arith) words
+          (subst (λ (g : ℕ). Exhausted s.args.places.now g l.loop-i.lefts) (handed k) (k.lower.ensures.1 c.if-not-lower.true))
           l.loop-i.invariant.2 tallied,
     )
 
@@ -74,12 +73,12 @@ loop-again c =
     let s = start_of l in
     let (words, (right, (rising, more))) = s.requires in
     let places = s.args.places.now in
-    let after = k.lower.new.1.1.0 in (
+    let after = k.lower.new.lefts in (
       omega arith,
-      k.lower.auto.1.1.0 ∙ l.loop-i.invariant.1,
+      k.lower.auto.lefts ∙ l.loop-i.invariant.1,
       rw add-one
-          (lefts-next s.args.table.now places rising l.loop-i.i (omega arith) (natural k.before.before.before) l.loop-i.lefts-1 after
-          (subst (λ (g : ℕ). Lowered places g l.loop-i.lefts-1 after) (handed k) (k.lower.ensures.0 (not-false _ c.if-not-lower.false))) l.loop-i.invariant.2),
+          (lefts-next s.args.table.now places rising l.loop-i.i (omega arith) (natural k.before.before.before) l.loop-i.lefts after
+          (subst (λ (g : ℕ). Lowered places g l.loop-i.lefts after) (handed k) (k.lower.ensures.0 c.if-not-lower.false)) l.loop-i.invariant.2),
     )
 
 returns-2 : tie.Need-returns invariant-loop decreases-loop

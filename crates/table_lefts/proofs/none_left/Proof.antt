@@ -24,15 +24,15 @@ loop-again : tie.Need-loop-p-preserved invariant-loop decreases-loop
 loop-again c = ⊎_elim
     (λ w. (
       omega arith,
-      omega (arith, w.1),
-      λ e. absurd (omega (arith, w.1)),
-      λ h. record { place = l.loop-p.p; within = omega arith; some = w.0.taken },
+      omega (arith, w.others-is),
+      λ e. absurd (omega (arith, w.others-is)),
+      λ h. record { place = l.loop-p.p; within = omega arith; some = w.if-lefts-p-ne0.true },
     ))
     (λ w. (
       omega arith,
-      omega (arith, w.1),
-      λ e. below_more _ _ (l.loop-p.invariant.2 (sym w.1 ∙ e)) w.0.left,
-      λ h. let s = l.loop-p.invariant.3 (λ z. h (w.1 ∙ z)) in record { place = s.place; within = omega (arith, s.within); some = s.some },
+      omega (arith, w.others-is),
+      λ e. below_more _ _ (l.loop-p.invariant.2 (sym w.others-is ∙ e)) w.if-lefts-p-ne0.false,
+      λ h. let s = l.loop-p.invariant.3 (λ z. h (w.others-is ∙ z)) in record { place = s.place; within = omega (arith, s.within); some = s.some },
     ))
     c.if-lefts-p-ne0.branch-raw
   where
