@@ -1,5 +1,7 @@
 // A go over the table for a window of the list's places. The pairs of the window are gathered first, by blocks and without a branch, since
 // which of them are in it cannot be guessed.
+#![tactic(auto)]
+
 ghost use Rattle.std.specs.Prelude.{◌≡◌, ℕ, ◌+◌, ◌-◌, ◌*◌, ◌<◌, ◌≤◌, true, false, length, take};
 ghost use Rattle.language.specs.Table.{numbers_right};
 ghost use Rattle.laws.specs.Tables.{group_at};

@@ -40,11 +40,11 @@ loop-again c =
     let same = gathered-same s.args.table.now s.args.from l.loop-i.i s.args.first s.args.span block l.loop-i.n x l.loop-i.invariant.4 (omega arith) (natural r.before) r.natural_at-group.ensures.0 (omega arith) in (
       omega arith,
       omega arith,
-      ⊎_elim (λ w. omega (arith, w.1)) (λ w. omega (arith, w.1)) c.if-between.branch-raw,
+      ⊎_elim (λ w. omega (arith, w.n-is)) (λ w. omega (arith, w.n-is)) c.if-between.branch-raw,
       simp length-set l.loop-i.invariant.3,
       rw add-one (⊎_elim
-          (λ w. subst (λ (n : ℕ). Gathered s.args.table.now s.args.from (suc l.loop-i.i) s.args.first s.args.span (take n (set block l.loop-i.n x))) (sym (w.1 ∙ add-one l.loop-i.n)) more)
-          (λ w. subst (λ (n : ℕ). Gathered s.args.table.now s.args.from (suc l.loop-i.i) s.args.first s.args.span (take n (set block l.loop-i.n x))) (sym w.1) (same (b.between.ensures w.0.left)))
+          (λ w. subst (λ (n : ℕ). Gathered s.args.table.now s.args.from (suc l.loop-i.i) s.args.first s.args.span (take n (set block l.loop-i.n x))) (sym (w.n-is ∙ add-one l.loop-i.n)) more)
+          (λ w. subst (λ (n : ℕ). Gathered s.args.table.now s.args.from (suc l.loop-i.i) s.args.first s.args.span (take n (set block l.loop-i.n x))) (sym w.n-is) (same (b.between.ensures w.if-between.false)))
           c.if-between.branch-raw),
     )
 

@@ -1,6 +1,5 @@
 -- `lower_block` meets its contract. The loop's invariant: the groups passed have taken one each.
 use Rattle.std.proofs.Common.{◌≡◌, ◌-◌, ◌≤◌, length, take, sym, refl, ◌∙◌, add-one, arith, rules}
-use borrow.Author.Tests.{not-true, not-false}
 use Rattle.laws.specs.Tests.{never}
 use Rattle.table_blocks.specs.Blocks.{Taken}
 use Rattle.table_blocks.proofs.Blocks.{taken_none, taken_more, overdrawn-here}
@@ -22,7 +21,7 @@ loop_of c = c.before.before.before.before.before
 loop-holds : tie.Need-loop-j-init invariant-loop decreases-loop
 loop-holds c =
     let s = c.before.before.before in
-    (omega arith, refl, taken_none s.args.places.now s.args.block.now s.args.lefts-1.now)
+    (omega arith, refl, taken_none s.args.places.now s.args.block.now s.args.lefts.now)
 
 lower-requires : tie.Need-lower-requires invariant-loop decreases-loop
 lower-requires c κs =
@@ -36,8 +35,8 @@ returns c =
     let l = loop_of k in
     let s = start_of l in (
       λ e. never e refl,
-      λ e. overdrawn-here s.args.places.now s.args.block.now l.loop-j.j k.before.large.result (omega arith) k.before.large.ensures.0 s.args.lefts-1.now l.loop-j.lefts-1 l.loop-j.invariant.2
-          s.args.n (omega arith) (omega arith) (k.lower.ensures.1 (not-true _ c.if-not-lower.true)),
+      λ e. overdrawn-here s.args.places.now s.args.block.now l.loop-j.j k.before.large.result (omega arith) k.before.large.ensures.0 s.args.lefts.now l.loop-j.lefts l.loop-j.invariant.2
+          s.args.n (omega arith) (omega arith) (k.lower.ensures.1 c.if-not-lower.true),
     )
 
 loop-again : tie.Need-loop-j-preserved invariant-loop decreases-loop
@@ -46,9 +45,9 @@ loop-again c =
     let l = loop_of k in
     let s = start_of l in (
       omega arith,
-      k.lower.auto.1.1.0 ∙ l.loop-j.invariant.1,
-      rw add-one (taken_more s.args.places.now s.args.block.now l.loop-j.j k.before.large.result (omega arith) k.before.large.ensures.0 s.args.lefts-1.now l.loop-j.lefts-1 l.loop-j.invariant.2
-          k.lower.new.1.1.0 (k.lower.ensures.0 (not-false _ c.if-not-lower.false))),
+      k.lower.auto.lefts ∙ l.loop-j.invariant.1,
+      rw add-one (taken_more s.args.places.now s.args.block.now l.loop-j.j k.before.large.result (omega arith) k.before.large.ensures.0 s.args.lefts.now l.loop-j.lefts l.loop-j.invariant.2
+          k.lower.new.lefts (k.lower.ensures.0 c.if-not-lower.false)),
     )
 
 returns-2 : tie.Need-returns invariant-loop decreases-loop

@@ -1,6 +1,5 @@
 -- `lower_window` meets its contract. The loop's invariant: what is left and what the pairs passed have taken are the numbers.
 use Rattle.std.proofs.Common.{◌≡◌, ℕ, ◌-◌, ◌<◌, ◌≤◌, List, length, take, sym, refl, ◌∙◌, arith, rules}
-use borrow.Author.Tests.{not-true, not-false}
 use Rattle.laws.specs.Tests.{never}
 use Rattle.table_places.specs.Places.{places_in, Rising}
 use Rattle.table_lefts.specs.Lefts.{LeftsAre}
@@ -56,7 +55,7 @@ abbrev to_of : tie.After-gather-n invariant-loop decreases-loop → ℕ
 to_of c = c.before.before.block_end-to.result
 
 abbrev block_of : tie.After-gather-n invariant-loop decreases-loop → List ℕ
-block_of c = take c.gather-n.result c.gather-n.new.1.1.1.1.1.0
+block_of c = take c.gather-n.result c.gather-n.new.block
 
 returns : tie.Need-returns-then-not-lower_block invariant-loop decreases-loop
 returns c =
@@ -69,8 +68,8 @@ returns c =
     let (later, (most, few)) = g.before.before.block_end-to.ensures in (
       λ e. never e refl,
       λ e. overdrawn-wrong s.args.table.now s.args.places.now (rising s) (some s) v.before.natural_at-first.result (v.natural_at-last.result - v.before.natural_at-first.result)
-          v.before.natural_at-first.ensures.0 (omega (arith, span_fits v, v.natural_at-last.ensures.0)) l.loop-i.i (to_of g) (block_of g) l.loop-i.lefts-1 g.gather-n.ensures.1 l.loop-i.invariant.3
-          s.args.count most words (k.lower_block.ensures.1 (not-true _ c.if-not-lower_block.true)),
+          v.before.natural_at-first.ensures.0 (omega (arith, span_fits v, v.natural_at-last.ensures.0)) l.loop-i.i (to_of g) (block_of g) l.loop-i.lefts g.gather-n.ensures.1 l.loop-i.invariant.3
+          s.args.count most words (k.lower_block.ensures.1 c.if-not-lower_block.true),
     )
 
 loop-again : tie.Need-loop-i-preserved invariant-loop decreases-loop
@@ -82,17 +81,17 @@ loop-again c =
     let s = start_of v in
     let (later, (most, few)) = g.before.before.block_end-to.ensures in (
       most,
-      k.lower_block.auto.1.1.1.1.0 ∙ l.loop-i.invariant.1,
-      g.gather-n.kept.1.1.1.1.1.0 ∙ l.loop-i.invariant.2,
+      k.lower_block.auto.lefts ∙ l.loop-i.invariant.1,
+      g.gather-n.auto.block ∙ l.loop-i.invariant.2,
       lefts-block s.args.table.now s.args.places.now (rising s) (some s) v.before.natural_at-first.result (v.natural_at-last.result - v.before.natural_at-first.result)
-          v.before.natural_at-first.ensures.0 (omega (arith, span_fits v, v.natural_at-last.ensures.0)) l.loop-i.i (to_of g) (block_of g) l.loop-i.lefts-1 g.gather-n.ensures.1 l.loop-i.invariant.3
-          k.lower_block.new.1.1.1.1.0 (k.lower_block.ensures.0 (not-false _ c.if-not-lower_block.false)),
+          v.before.natural_at-first.ensures.0 (omega (arith, span_fits v, v.natural_at-last.ensures.0)) l.loop-i.i (to_of g) (block_of g) l.loop-i.lefts g.gather-n.ensures.1 l.loop-i.invariant.3
+          k.lower_block.new.lefts (k.lower_block.ensures.0 c.if-not-lower_block.false),
     )
 
 counted : tie.Need-slice_bounds-lower_block-end invariant-loop decreases-loop
 counted c =
     let g = c.before.before in
-    sym (g.gather-n.auto.1.1.1.1.1.0 ∙ (loop_of g).loop-i.invariant.2)
+    sym (g.gather-n.auto.block ∙ (loop_of g).loop-i.invariant.2)
 
 returns-2 : tie.Need-returns invariant-loop decreases-loop
 returns-2 c =
