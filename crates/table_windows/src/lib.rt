@@ -1,5 +1,7 @@
 // Places in slots that are made for them: up to 32,768 at once. A longer list is parted into windows of so many places, and each has a go
 // over the table of its own.
+#![tactic(auto)]
+
 ghost use Rattle.std.specs.Prelude.{◌≡◌, true, ◌*◌, ◌≤◌, ◌<◌, length, replicate};
 ghost use Rattle.language.specs.Table.{numbers_right};
 ghost use Rattle.table_places.specs.Places.{places_in, Rising};
