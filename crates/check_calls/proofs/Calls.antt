@@ -8,7 +8,7 @@ use Prim.Native.Nat.{ℕ, suc, ◌+◌, ◌*◌, ◌-◌, ◌<◌, ◌≤◌}
 use native.Mathlib.Omega.{arith}
 use Rattle.language.specs.Text.{Kind}
 use Rattle.language.specs.Encoding.{kind_field}
-use Rattle.language.specs.Scope.{Scope, fine, wrong, visible, all_visible, kind_in, agree, ◌then◌}
+use Rattle.language.specs.Scope.{Scope, wrong, visible, all_visible, kind_in, agree, ◌then◌}
 use Rattle.language.specs.declared.Refusal.TheVariants.{NotVisible}
 use Rattle.laws.specs.Fields.{field_at, fields_at}
 use Rattle.language.specs.declared.Verdict.TheVariants.{Fit, Refused}

@@ -1,4 +1,6 @@
 // CL: the name called, its arguments, and 11.
+#![tactic(auto)]
+
 ghost use Rattle.std.specs.Prelude.{◌≡◌, true, ◌^◌, ◌<◌};
 ghost use Rattle.std.proofs.Math.Option.{some};
 ghost use Rattle.language.specs.Scope as definitions;

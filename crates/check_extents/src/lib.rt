@@ -1,4 +1,6 @@
 // Passing over the records of a script, where each ends, and the entries of those that declare names. All is safe on any bytes up to 8,192.
+#![tactic(auto)]
+
 ghost use Rattle.std.specs.Prelude.{◌+◌, ◌<◌, ◌≤◌, length};
 ghost use Rattle.check_extents.specs.Passing.{Ends, Placed};
 

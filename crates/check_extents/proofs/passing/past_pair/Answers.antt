@@ -8,17 +8,14 @@ use Rattle.check_marks.specs.Marks.{fit_in, fit_at}
 use Rattle.check_marks.specs.Counts.{field_count}
 use Rattle.check_extents.specs.Passing.{TwoFields}
 use Rattle.check_extents.proofs.Skipping.{count-two, size-other, child-other}
-use borrow.Author.Rules.{rules}
-use Rattle.check_extents.proofs.passing.past_pair.Statement.{statement}
-use Rattle.check_extents.proofs.passing.past_pair.Tie as tie
+use Rattle.check_extents.proofs.passing.past_pair.Goals as goal
 
-returns : tie.Need-returns
+pub returns : goal.returns
 unfolding field_count fit_at fit_in stmt_marks
 returns c =
-    let st = c.before.before in
-    let a = st.args in
+    let a = c.args in
     let w = field_at a.script.now a.at in
-    let two : TwoFields w = subst TwoFields st.requires.1 st.requires.2 in
+    let two : TwoFields w = subst TwoFields c.requires.1 c.requires.2 in
     let n : c.field_count.result ≡ 2 = c.field_count.ensures.0 in
     let k = count-two w two in
     let e = size-other w (field_at a.script.now (a.at + 4)) two.no-CL in
@@ -29,8 +26,3 @@ returns c =
       near = omega arith;
       few = omega arith;
     }
-
-pub past_pair_spec : {M : Type 1} → statement M
-past_pair_spec =
-    tie.close (tie.spec (λ c. search rules) (λ c. search rules) (λ c κs. search rules) (λ c. search rules) (λ c. search rules)
-    returns)
