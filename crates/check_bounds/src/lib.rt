@@ -1,4 +1,6 @@
 // One record judged by itself, once it has been read: what the block around it says of it is handed in.
+#![tactic(auto)]
+
 pub mod block;
 pub mod declaration;
 pub mod statement;

@@ -3,4 +3,3 @@ pub mod SameNames
 pub mod KindTests
 pub mod FormalLaws
 pub mod HoldingLaws
-pub mod Rows

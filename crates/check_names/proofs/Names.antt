@@ -1,7 +1,7 @@
 -- The names of a level in the array of all levels: searched, added to, and kept where only levels below are written.
 -- Assumes nothing.
 use mathlib.Core.Path.{◌≡◌, refl, sym, ◌∙◌, ap}
-use mathlib.Core.Bool.{true, false}
+use mathlib.Core.Bool.{Bool, true, false}
 use mathlib.Core.List.{List, [], ◌∷◌, ◌++◌}
 use Prim.Native.Nat.{ℕ, suc, ◌+◌, ◌-◌, ◌<◌, ◌≤◌}
 use native.Mathlib.Omega.{arith}
@@ -11,6 +11,11 @@ use lib.Seq.{drop-cons, take-add, take-take, drop_at, length-take-le, take-suc-s
 use borrow.Author.Tests.{eq-eqb, ne_eqb}
 use Rattle.language.specs.Basics.{among}
 use Rattle.check_names.specs.Naming.{names_at}
+
+-- whether either holds
+abbrev pub either : Bool → Bool → Bool
+either true b = true
+either false b = b
 
 among-hit : (n x : ℕ) (xs : List ℕ) → x ≡ n → among n (x ∷ xs) ≡ true
 unfolding among

@@ -33,8 +33,7 @@ fn hold(names: &mut [u32], base: usize, count: usize, at: usize, reading: Readin
     Progress::At(next)
 }
 
-// p formals, handed out one after the other by one reader, which moves on. Their names are put from a base on. The borrow checker covers
-// no function that has a reader, so the proof of this one is a walk, and it leaves the judging to `hold`.
+// p formals, handed out one after the other by one reader, which moves on. Their names are put from a base on. The judging is left to `hold`.
 pub fn read_formals(script: &[u8], names: &mut [u32], at: usize, p: usize, base: usize) -> Progress
     requires { base + p ≤ length names.old }
     ensures reads { result ≡ forget (formals p [] at (unread script.now at)) }

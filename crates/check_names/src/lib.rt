@@ -1,5 +1,7 @@
 // The names of one block, held side by side in an array: whether a name is among them, and the formals of a procedure, which are the
 // first names of its body's block.
+#![tactic(auto)]
+
 ghost use Rattle.std.specs.Prelude.{◌≡◌, ◌+◌, ◌≤◌, length};
 ghost use Rattle.language.specs.Basics.{among};
 ghost use Rattle.check_names.specs.Naming.{names_at};
