@@ -1,5 +1,7 @@
 // The links of the live activations, sought where a sheet is to be written: the engine keeps none. An activation is enclosed by the first one of a lower level
 // that the search meets on its way out.
+#![tactic(auto)]
+
 ghost use Rattle.std.specs.Prelude.{◌≡◌, ◌<◌, ◌≤◌, length, get_or};
 ghost use Rattle.search_links.specs.Enclosing.{level_at, shallower_from, link_at, Askable, AllAskable, LinksFound};
 
