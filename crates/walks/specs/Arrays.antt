@@ -29,7 +29,7 @@ use denote.Ref.{MutBor, mut_vals}
 use denote.Slice.{slice_val, MutSlice, Room}
 use Rattle.walks.specs.Data.{Datum, Good}
 use Rattle.walks.specs.Loans.{Loan, mut_ref, mut_slice, In, Out, gives}
-use Rattle.walks.specs.Params.{Par, Bounds, Sames, outs, Goods, alive}
+use Rattle.walks.specs.Params.{Par, Bounds, outs, Goods, alive}
 use Rattle.walks.specs.Functions.{has, leaves-with}
 use Rattle.walks.specs.Lends.{OpenRef, opened-ref, closed-ref}
 use Rattle.walks.specs.Frames.{Among, type_of, block_of}
@@ -116,10 +116,10 @@ module _ {M : Type 1} {𝓤 : Ura M} {𝓛 : Logic 𝓤} {K : Type 0} {Γ : List
       back-local t z (arrays D n) m i b ys s.outer s.outer_name e g a q there k
 
 -- ---- no `ensures`
-pub leaves-unsaid : {M : Type 1} {𝓤 : Ura M} (𝓛 : Logic 𝓤) (ps : List Par) (ws : Bounds 0 ps) → Sames 0 ps ws → Goods ps → (D : Datum)
+pub leaves-unsaid : {M : Type 1} {𝓤 : Ura M} (𝓛 : Logic 𝓤) (ps : List Par) (ws : Bounds 0 ps) → Goods ps → (D : Datum)
     (r : D.type.Denot) → Good D r
     → ent 𝓤 (⋆ 𝓛 (outs 𝓤 0 ps ws)) (sep 𝓤 (sep 𝓤 (alive 𝓛 ps) (sep 𝓤 (sem 𝓛 (has 0 ps ws)) (sem 𝓛 (D.type.own_val r (D.val r ∷ []))))) (emp 𝓤))
-leaves-unsaid {𝓤 = 𝓤} 𝓛 ps ws same goods D r good =
+leaves-unsaid {𝓤 = 𝓤} 𝓛 ps ws goods D r good =
     let P : SProp 𝓤 = sep 𝓤 (alive 𝓛 ps) (sep 𝓤 (sem 𝓛 (has 0 ps ws)) (sem 𝓛 (D.type.own_val r (D.val r ∷ [])))) in
     let Q : SProp 𝓤 = fact 𝓤 (Unit {0}) in
-    via 𝓤 (sep 𝓤 P Q) (leaves-with 𝓛 ps ws same goods D r good (Unit {0}) tt) (mono_r 𝓤 P (via 𝓤 (sep 𝓤 (emp 𝓤) Q) (emp∗ 𝓤 Q) (fst∗ 𝓤 (emp 𝓤) Q)))
+    via 𝓤 (sep 𝓤 P Q) (leaves-with 𝓛 ps ws goods D r good (Unit {0}) tt) (mono_r 𝓤 P (via 𝓤 (sep 𝓤 (emp 𝓤) Q) (emp∗ 𝓤 Q) (fst∗ 𝓤 (emp 𝓤) Q)))

@@ -14,7 +14,7 @@ use types.Kit.{⋆}
 use Rattle.std.specs.Borrow.{RattleType}
 use denote.Triple.Walked.{needs}
 use Rattle.walks.specs.Data.{Datum, Good}
-use Rattle.walks.specs.Params.{Par, Bounds, Sames, lasts, outs, Goods, alive, owning}
+use Rattle.walks.specs.Params.{Par, Bounds, lasts, outs, Goods, alive, owning}
 use Rattle.walks.specs.Functions.{has, leaves-with}
 use Rattle.walks.specs.Calls.{Given-back}
 
@@ -74,10 +74,10 @@ module _ {M : Type 1} {𝓤 : Ura M} (𝓛 : Logic 𝓤) (ps : List Par) (R : Ra
       one r ws = fact 𝓤 (All (all_at ψs r ws))
 
 module _ {M : Type 1} {𝓤 : Ura M} (𝓛 : Logic 𝓤) where
-  pub leaves-saying : (ps : List Par) (ws : Bounds 0 ps) → Sames 0 ps ws → Goods ps → (D : Datum) (r : D.type.Denot) → Good D r → (φs : List (Type 0)) → All φs
+  pub leaves-saying : (ps : List Par) (ws : Bounds 0 ps) → Goods ps → (D : Datum) (r : D.type.Denot) → Good D r → (φs : List (Type 0)) → All φs
       → ent 𝓤 (⋆ 𝓛 (outs 𝓤 0 ps ws)) (sep 𝓤 (sep 𝓤 (alive 𝓛 ps) (sep 𝓤 (sem 𝓛 (has 0 ps ws)) (sem 𝓛 (D.type.own_val r (D.val r ∷ []))))) (facts
       𝓤 φs))
-  leaves-saying ps ws same goods D r good φs x = via 𝓤 (sep 𝓤 Rest (fact 𝓤 (All φs))) (leaves-with 𝓛 ps ws same goods D r good (All φs) x) (mono_r 𝓤 Rest (apart 𝓤
+  leaves-saying ps ws goods D r good φs x = via 𝓤 (sep 𝓤 Rest (fact 𝓤 (All φs))) (leaves-with 𝓛 ps ws goods D r good (All φs) x) (mono_r 𝓤 Rest (apart 𝓤
       φs))
     where
       Rest : SProp 𝓤

@@ -4,7 +4,8 @@
 --     lends_slice, back-slice      a `&mut [T]` as a `&mut [T]`.        shares-slice, unshares-slice     as a `&[T]`
 --     lends_ref, back-ref          a `&mut T` as a `&mut T`.            shares-ref, unshares-ref         as a `&T`
 --     Waits…           what waits meanwhile
--- A `&T` is made by T's law (`denote.Shares`'s `Shares`, at a lifetime l), with tokens ts of lifetimes within l, which come back: none, where T holds no `&mut`, since its l is then `[]`.
+-- A `&T` is made by T's law (`denote.Shares`'s `Shares`, at a lifetime l), with tokens ts of lifetimes within l, which come back: none, where T holds no `&mut`,
+-- since its l is then `[]`. A `&` has no ghost name, so there δ is any.
 -- Assumes `Logic`.
 use Rattle.std.specs.Prelude.{◌≡◌, refl, ℕ, List, [], ◌∷◌, length}
 use Rattle.std.proofs.Common.{sym, ◌∙◌, ap, subst}

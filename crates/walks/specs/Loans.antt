@@ -7,19 +7,21 @@
 --     row k ℓ κ        the kind as a parameter's type.        ref      the reference's denotation at a value
 --     In k h y         the borrow h in hand, at the value y.        Out k h z      what is left of it once it was passed on for good: of a `&` itself, of a
 --         `&mut` what says its last value z, and the borrow, closed
---     enters           a borrow in hand gives the token, what a callee's parameter owns, and what is kept meanwhile (`Kept`: of a `&` a copy).        leaves
+--     enters           a borrow in hand gives the token, what a callee's parameter owns, and what is kept meanwhile (`Kept`: of a `&` a copy, of a `&mut [T]`
+--         that its machine value says how many there are).        leaves
 --              and the way back, with the last value
 --     gives_up, gives  In becomes Out, at the same value
 -- Assumes `Logic`.
 use Rattle.std.specs.Prelude.{◌≡◌, refl, ℕ, List, [], ◌∷◌, length}
-use Rattle.std.proofs.Common.{sym}
+use Rattle.std.proofs.Common.{sym, ap}
 use seplogic.Ra.Ura.{Ura}
 use mir.Syntax.{Lifetime, named}
-use mir.Val.{Val, vptr}
+use mir.Val.{Val, vunit, vbool, vint, vfloat, vptr, vcode, vstruct, as_int}
+use mir.Fields.{get_v}
 use base.Logic.{ent, sep, guard}
-use base.Fml.{Lft, GName, Share, Fml, ftrue, fsep, flft, fres, fbor}
+use base.Fml.{Lft, GName, Share, Fml, ftrue, fsep, feq, flft, fres, fbor}
 use types.Logic.{Logic, sem}
-use types.Kit.{Item, Goal, Step, ‵, ◌⊛◌, ◌$◌, ◌∵◌, !, qed, move, keep, split, use1, rewrite, fsplit, fsplit3, fjoin, feq_l, check, done}
+use types.Kit.{Item, Goal, Step, ‵, ◌⊛◌, ◌$◌, ◌∵◌, !, qed, move, keep, split, use1, rewrite, fsplit, fsplit3, fjoin, drop, feq_i, feq_l, check, done}
 use types.SemTy.{Arr, Body}
 use types.Hole.{Holey}
 use denote.RattleType.{RattleType, RowLaws}
@@ -27,7 +29,8 @@ use denote.Memory.{mem}
 use denote.Ref.{Bor, MutBor, MutRef, ShrRef, shr_copy}
 use denote.Slice.{slice_val, MutSlice, ShrSlice, finally, heres, coded_holeys, res-finally, shr_slice_copy}
 use denote.Exit.{yes, Last, left}
-use denote.Steps.{nothing}
+use denote.Laws.{Is, shows}
+use denote.Steps.{nothing, only, peeks}
 
 pub record Loan : Type 0 where
   pub lft : Lft
@@ -96,10 +99,24 @@ owned k ℓ h y = (row k ℓ h.lft).own_val (ref ℓ h.lft h k y) (h.val ∷ [])
 abbrev pub In : (k : Kind) → Loan → Value k → Fml
 In k h y = fsep (owned k (named 0) h y) (token h)
 
+-- how many elements a slice's machine value says
+abbrev pub count_of : Val → ℕ
+count_of vunit = 0
+count_of (vbool t) = 0
+count_of (vint w n) = 0
+count_of (vfloat f x) = 0
+count_of (vptr b o) = 0
+count_of (vcode c) = 0
+count_of (vstruct vs) = as_int 0 (get_v vs 1) (λ _ n. n)
+
+-- the borrow of a slice, closed
+abbrev pub slice_closed : RattleType → Loan → Fml
+slice_closed R h = fbor h.lft (Body (Arr (Holey (mem R)) (count_of h.val)) h.block h.off h.name)
+
 abbrev pub Said : (k : Kind) → Loan → Value k → Fml
 Said (mut_ref R) h z = fsep (fres h.name (R.coded.code z)) (fbor h.lft (Body (mem R) h.block h.off h.name))
 Said (shr_ref R L) h z = owned (shr_ref R L) (named 0) h z
-Said (mut_slice R) h z = fsep (finally R h.name z) (fbor h.lft (Body (Arr (Holey (mem R)) (length z)) h.block h.off h.name))
+Said (mut_slice R) h z = fsep (finally R h.name z) (slice_closed R h)
 Said (shr_slice R L) h z = owned (shr_slice R L) (named 0) h z
 
 abbrev pub Out : (k : Kind) → Loan → Value k → Fml
@@ -109,7 +126,7 @@ Out k h z = fsep (Said k h z) (token h)
 abbrev pub Kept : (k : Kind) → Loan → Value k → Fml
 Kept (mut_ref R) h y = ftrue
 Kept (shr_ref R L) h y = owned (shr_ref R L) (named 0) h y
-Kept (mut_slice R) h y = ftrue
+Kept (mut_slice R) h y = feq ℕ (count_of h.val) (length y)
 Kept (shr_slice R L) h y = owned (shr_slice R L) (named 0) h y
 
 module _ (ℓ : Lifetime) (h : Loan) where
@@ -134,13 +151,21 @@ module _ (ℓ : Lifetime) (h : Loan) where
   Same (shr_slice R L) y w = Unit {0}
 
 module _ {M : Type 1} {𝓤 : Ura M} (𝓛 : Logic 𝓤) (ℓ : Lifetime) (h : Loan) where
+  abbrev slice_body : RattleType → ℕ → Fml
+  slice_body R m = fbor h.lft (Body (Arr (Holey (mem R)) m) h.block h.off h.name)
+
+  counts : {p : ℕ × ℕ} {m : ℕ} → h.val ∷ [] ≡ slice_val p m ∷ [] → count_of h.val ≡ m
+  counts e = ap (λ (vs : List Val). count_of (only vs)) e
+
   pub enters : (k : Kind) (y : Value k) → ent 𝓤 (sem 𝓛 (In k h y)) (sep 𝓤 (sem 𝓛 (token h)) (sep 𝓤 (sem 𝓛 (owned k ℓ h y))
       (sem 𝓛 (Kept k h y))))
   enters (mut_ref R) y = qed 𝓛 (‵ (In (mut_ref R) h y) ∷ []) ∵ fsplit ! $ nothing ! $ move ! (2 ∷ 1 ∷ 0 ∷ []) $ done !
   enters (shr_ref R L) y = qed 𝓛 (‵ (In (shr_ref R L) h y) ∷ []) ∵ fsplit ! $
       use1 𝓛 (‵ (owned (shr_ref R L) ℓ h y) ⊛ ‵ (owned (shr_ref R L) (named 0) h y)) ((shr_copy 𝓛 (named 0) h.lft R L).twice (shr_at h y) (h.val ∷ [])) $
       split ! $ move ! (2 ∷ 0 ∷ 1 ∷ []) $ done !
-  enters (mut_slice R) y = qed 𝓛 (‵ (In (mut_slice R) h y) ∷ []) ∵ fsplit ! $ nothing ! $ move ! (2 ∷ 1 ∷ 0 ∷ []) $ done !
+  enters (mut_slice R) y = qed 𝓛 (‵ (In (mut_slice R) h y) ∷ []) ∵ fsplit ! $
+      peeks ! (MutSlice ℓ h.lft R) (Is (MutSlice ℓ h.lft R)) (shows 𝓛 (MutSlice ℓ h.lft R)) (mut_at h y) (h.val ∷ []) (λ is.
+      feq_i ! ℕ (count_of h.val) (length y) (counts is.0.0) $ move ! (2 ∷ 1 ∷ 0 ∷ []) $ done !)
   enters (shr_slice R L) y = qed 𝓛 (‵ (In (shr_slice R L) h y) ∷ []) ∵ fsplit ! $
       use1 𝓛 (‵ (owned (shr_slice R L) ℓ h y) ⊛ ‵ (owned (shr_slice R L) (named 0) h y)) ((shr_slice_copy 𝓛 (named 0) h.lft R L).twice (shr_at h y)
       (h.val ∷ [])) $ split ! $ move ! (2 ∷ 0 ∷ 1 ∷ []) $ done !
@@ -153,9 +178,10 @@ module _ {M : Type 1} {𝓤 : Ura M} (𝓛 : Logic 𝓤) (ℓ : Lifetime) (h : L
       keep ! (0 ∷ []) $ done !
   leaves (shr_ref R L) y w = qed 𝓛 (‵ (token h) ∷ ‵ ftrue ∷ ‵ (owned (shr_ref R L) (named 0) h y) ∷ []) ∵ check ! tt $ move ! (2 ∷ 0 ∷ []) $ fjoin ! $
       keep ! (0 ∷ []) $ done !
-  leaves (mut_slice R) y w = qed 𝓛 (‵ (token h) ∷ ‵ (left-of ℓ h (mut_slice R) y w) ∷ ‵ ftrue ∷ []) ∵ move ! (1 ∷ []) $ fsplit ! $ fsplit ! $ move ! (1 ∷ []) $
-      feq_l ! (λ e. rewrite ! 1 (λ (m : ℕ). ‵ (fbor h.lft (Body (Arr (Holey (mem R)) m) h.block h.off h.name))) (sym e) refl $
-      fjoin ! $ check ! e $ fjoin ! $ keep ! (0 ∷ []) $ done !)
+  leaves (mut_slice R) y w = qed 𝓛 (‵ (token h) ∷ ‵ (left-of ℓ h (mut_slice R) y w) ∷ ‵ (Kept (mut_slice R) h y) ∷ []) ∵ move ! (2 ∷ []) $
+      feq_l ! (λ c. move ! (1 ∷ []) $ fsplit ! $ fsplit ! $ move ! (1 ∷ []) $
+      feq_l ! (λ e. rewrite ! 1 (λ (m : ℕ). ‵ (slice_body R m)) (sym c) refl $
+      fjoin ! $ check ! e $ fjoin ! $ keep ! (0 ∷ []) $ done !))
   leaves (shr_slice R L) y w = qed 𝓛 (‵ (token h) ∷ ‵ ftrue ∷ ‵ (owned (shr_slice R L) (named 0) h y) ∷ []) ∵ check ! tt $ move ! (2 ∷ 0 ∷ []) $ fjoin ! $
       keep ! (0 ∷ []) $ done !
 
@@ -164,10 +190,10 @@ module _ {M : Type 1} {𝓤 : Ura M} (𝓛 : Logic 𝓤) (ℓ : Lifetime) (h : L
       use1 𝓛 (‵ (fres h.name (R.coded.code y))) (𝓛.names.obs-res h.name (R.coded.code y)) $ move ! (0 ∷ 2 ∷ []) $ fjoin ! $ move ! (0 ∷ 2 ∷ []) $ fjoin ! $ keep ! (0 ∷ []) $
       done !
   gives_up (shr_ref R L) y = qed 𝓛 (‵ (In (shr_ref R L) h y) ∷ []) ∵ done !
-  gives_up (mut_slice R) y = qed 𝓛 (‵ (In (mut_slice R) h y) ∷ []) ∵ fsplit ! $ fsplit3 ! $ move ! (1 ∷ []) $
+  gives_up (mut_slice R) y = qed 𝓛 (‵ (In (mut_slice R) h y) ∷ []) ∵ fsplit ! $ fsplit3 ! $ fsplit ! $
+      feq_l ! (λ e. rewrite ! 2 (λ (m : ℕ). ‵ (slice_body R m)) (sym (counts e)) refl $ drop ! $
       use1 𝓛 (‵ (fres h.name ((coded_holeys R).code (heres R y)))) (𝓛.names.obs-res h.name ((coded_holeys R).code (heres R y))) $
-      use1 𝓛 (‵ (finally R h.name y)) (res-finally 𝓛 (named 0) h.lft R h.name y) $ move ! (0 ∷ 2 ∷ []) $ fjoin ! $ move ! (0 ∷ 2 ∷ []) $ fjoin ! $
-      keep ! (0 ∷ []) $ done !
+      use1 𝓛 (‵ (finally R h.name y)) (res-finally 𝓛 (named 0) h.lft R h.name y) $ fjoin ! $ fjoin ! $ done !)
   gives_up (shr_slice R L) y = qed 𝓛 (‵ (In (shr_slice R L) h y) ∷ []) ∵ done !
 
 -- as a step, for the first entry
