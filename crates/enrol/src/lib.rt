@@ -1,4 +1,7 @@
-// What the server's C programs call. Each function is total: it requires nothing, and its contract fixes every word that it writes.
+// What programs call, and C programs by the static library of the crate enrol_c. Each function is total: it requires nothing, and its contract fixes every word that
+// it writes.
+#![tactic(auto)]
+
 ghost use Rattle.std.specs.Prelude.{◌≡◌, length};
 ghost use Rattle.language.specs.Check.{check};
 ghost use Rattle.language.specs.Call.{copying, display, chain, search};
@@ -11,8 +14,7 @@ use call_answers::write_answer;
 use chain_records::Activation;
 
 // The refusal's number, 0 where the script is accepted, and its offset.
-#[unsafe(no_mangle)]
-pub extern "C" fn enrol_check(script: &[u8], answer: &mut [u64; 2])
+pub fn enrol_check(script: &[u8], answer: &mut [u64; 2])
     ensures { answer.new ≡ check_words (check script.now) }
 {
     *answer = check_call::call(script);
@@ -20,8 +22,7 @@ pub extern "C" fn enrol_check(script: &[u8], answer: &mut [u64; 2])
 
 // A run by the copying engine, on texts in a lent area: the answer's words, what becomes of table, list of groups and sheet, and the area as it was where the call
 // is refused.
-#[unsafe(no_mangle)]
-pub extern "C" fn enrol_copy(
+pub fn enrol_copy(
     script: &[u8],
     d: u32,
     n: u32,
@@ -54,8 +55,7 @@ pub extern "C" fn enrol_copy(
 }
 
 // A run by the display engine: the answer's words, and what becomes of table, list of groups and sheet.
-#[unsafe(no_mangle)]
-pub extern "C" fn enrol_display(
+pub fn enrol_display(
     script: &[u8],
     d: u32,
     n: u32,
@@ -87,8 +87,7 @@ pub extern "C" fn enrol_display(
 }
 
 // A run by the chain engine, on activation records in a lent slice: the same, and the records as they were where the call is refused.
-#[unsafe(no_mangle)]
-pub extern "C" fn enrol_chain(
+pub fn enrol_chain(
     script: &[u8],
     d: u32,
     n: u32,
@@ -121,8 +120,7 @@ pub extern "C" fn enrol_chain(
 }
 
 // A run by the search engine: the answer's words, and what becomes of table, list of groups and sheet.
-#[unsafe(no_mangle)]
-pub extern "C" fn enrol_search(
+pub fn enrol_search(
     script: &[u8],
     d: u32,
     n: u32,

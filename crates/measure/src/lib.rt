@@ -1,4 +1,6 @@
-// The test of table and list and the search of a pair, exported for the benchmark and its tests alone.
+// The test of table and list and the search of a pair, for the benchmark and its tests alone; the crate measure_c exports them to C.
+#![tactic(auto)]
+
 ghost use Rattle.std.specs.Prelude.{◌&&◌, ◌≡◌};
 ghost use Rattle.language.specs.Table.{find, right};
 ghost use Rattle.language.specs.Groups.{list_fits, list_right};
@@ -9,8 +11,7 @@ use table_search::{PairPlace, place_of};
 use table_test::table_and_list_right;
 
 // Whether the table is right for a group limit, and its list long enough and right.
-#[unsafe(no_mangle)]
-pub extern "C" fn measure_right(table: &[i32], count: usize, limit: u32, groups: &[i32]) -> bool
+pub fn measure_right(table: &[i32], count: usize, limit: u32, groups: &[i32]) -> bool
     ensures { result ≡ (list_fits (table_of table.now count) groups.now && (right limit (table_of table.now count) && list_right (table_of table.now count) groups.now)) }
 {
     if groups.len() < 2 * (table.len() / 2) {
@@ -20,8 +21,7 @@ pub extern "C" fn measure_right(table: &[i32], count: usize, limit: u32, groups:
 }
 
 // The place of a pair among the first `count`, and `count` where it is not there.
-#[unsafe(no_mangle)]
-pub extern "C" fn measure_find(table: &[i32], count: usize, group: i32, member: i32) -> usize
+pub fn measure_find(table: &[i32], count: usize, group: i32, member: i32) -> usize
     ensures { result ≡ place_or count (find group member count table.now) }
 {
     let PairPlace::At(place) = place_of(table, count, group, member) else {
