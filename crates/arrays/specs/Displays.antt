@@ -18,11 +18,11 @@ use Rattle.frames.specs.Frame.{Frame, numbered, continue, put_word, new_frame}
 use Rattle.frames.specs.Numbered.{numbered-zero, numbered-low, numbered-high, numbered-index, numbered-append, numbered-seam, numbered-take, last-numbered}
 use Rattle.coordinates.specs.Enclosure.{Enclosing}
 use Rattle.coordinates.specs.Chain.{outline, SameOutlines, level_of, climb, display_from, display_of, Downward}
-use Rattle.coordinates.specs.Along.{alike-some, climb-some, climb-none, climb-zero, climb-bound}
-use Rattle.coordinates.specs.Coordinates.{frame-of-level, frame-by-display}
-use Rattle.coordinates.specs.Moves.{alike-cut, outline-continue}
-use Rattle.coordinates.specs.Statement.{level-alike}
-use Rattle.coordinates.specs.Display.{display-alike, display-length, display-step, display-after-call, display-after-return, display-after-goto, display-after-advance, display-after-store, display-prefix, displays-meet, entry-bound}
+use Rattle.coordinates.proofs.Along.{alike-some, climb-some, climb-none, climb-zero, climb-bound}
+use Rattle.coordinates.proofs.Coordinates.{frame-of-level, frame-by-display}
+use Rattle.coordinates.proofs.Moves.{alike-cut, outline-continue}
+use Rattle.coordinates.proofs.Statements.{level-alike}
+use Rattle.coordinates.proofs.Display.{display-alike, display-length, display-step, display-after-call, display-after-return, display-after-goto, display-after-advance, display-after-store, display-prefix, displays-meet, entry-bound}
 use Rattle.arrays.specs.Holds.{Holds, Shows}
 
 abbrev pub ShowsFrom : List Frame → ℕ → List ℕ → Type 0

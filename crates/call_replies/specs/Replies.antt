@@ -23,8 +23,8 @@ use Rattle.grammar.specs.Rules.{Bytes, Keeps}
 use Rattle.runs.specs.Admission.{Admitted, limits-fit, sheet-fits, sheet-lent, refused-exactly, accepted-exactly, admitted-accepted, leaves_all, leaves-length}
 use Rattle.runs.specs.Calls.{due-reply, admitted-answered}
 use Rattle.frames.specs.Frame.{Stack, Result, designates, links_followed, frame_sheet, frame_replied, frame_run_of, frame_reply}
-use Rattle.frames.specs.Theorem.{frames-run-as-copies}
-use Rattle.coordinates.specs.Sound.{Sound}
+use Rattle.frames.proofs.Theorem.{frames-run-as-copies}
+use Rattle.coordinates.proofs.Sound.{Sound}
 use Rattle.resolved.specs.Resolved.{resolved_of, Covers}
 use Rattle.arrays.specs.Holds.{Holds}
 use Rattle.check_script.specs.Verdicts.{verdict_of}

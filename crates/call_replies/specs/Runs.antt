@@ -16,7 +16,7 @@ use Rattle.table_laws.specs.Listing.{Beside, beside-lent, beside-relisted}
 use Rattle.runs.specs.Admission.{Admitted, limits-fit, table-right, list-fits, list_right_lem, list-lent, limit-fits, activations-fit}
 use Rattle.runs.specs.Calls.{table-length}
 use Rattle.frames.specs.Frame.{Frame, frame_replied, frame_run_of, frame_sheet}
-use Rattle.coordinates.specs.Sound.{accepted-keeps-rules}
+use Rattle.coordinates.proofs.Sound.{accepted-keeps-rules}
 use Rattle.resolved.specs.Resolved.{resolved_of, Covers}
 use Rattle.steps.specs.Begun.{Begun}
 use Rattle.steps.specs.Underway.{Ended}

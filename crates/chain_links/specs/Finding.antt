@@ -4,7 +4,7 @@ use Rattle.std.specs.Prelude.{ℕ, ◌+◌, ◌*◌, ◌-◌, ◌≤◌, ◌<◌
 use Rattle.chain_records.specs.declared.Activation.{Activation}
 use Rattle.resolved.specs.Resolved.{level_in, position_in}
 use Rattle.resolved.specs.Layout.{operation_in}
-use Rattle.arrays.specs.Names.{follow}
+use Rattle.arrays.proofs.Names.{follow}
 use Rattle.run_moves.specs.Acting.{Finding, set_all, arguments_from}
 use Rattle.run_statements.specs.Pieces.{only-cells}
 use Rattle.steps.specs.Finding.{by_first}

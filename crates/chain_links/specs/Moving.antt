@@ -17,7 +17,7 @@ use Rattle.coordinates.specs.Enclosure.{enclosed, Enclosure}
 use Rattle.coordinates.specs.Chain.{enclosing, enclosure_of}
 use Rattle.resolved.specs.Resolved.{place_of, end_place, level_in}
 use Rattle.resolved.specs.Layout.{formals_in, names_in, end_in, first_in, cell_from}
-use Rattle.resolved.specs.Places.{block-fields, end_is, end-bound, place-bound, enclosed-formed}
+use Rattle.resolved.proofs.Places.{block-fields, end_is, end-bound, place-bound, enclosed-formed}
 use Rattle.arrays.specs.Holds.{Holds}
 use Rattle.run_moves.specs.Effects.{Cleared}
 use Rattle.steps.specs.Standing.{Standing}

@@ -9,13 +9,13 @@ use Rattle.frames.specs.Frame.{Frame, designates, links_followed}
 use Rattle.frame_laws.specs.Finding.{seek_name-starts, links-none}
 use Rattle.coordinates.specs.Enclosure.{Coordinate, coordinate_of}
 use Rattle.coordinates.specs.Chain.{enclosure_of, level_of}
-use Rattle.coordinates.specs.Coordinates.{sought-none-iff}
-use Rattle.coordinates.specs.Next.{Resolved}
+use Rattle.coordinates.proofs.Coordinates.{sought-none-iff}
+use Rattle.coordinates.proofs.Next.{Resolved}
 use Rattle.resolved.specs.Resolved.{level_in}
-use Rattle.resolved.specs.NameWords.{word-none-iff}
+use Rattle.resolved.proofs.NameWords.{word-none-iff}
 use Rattle.arrays.specs.Holds.{designator_of}
 use Rattle.arrays.specs.Found.{cell_by}
-use Rattle.arrays.specs.Names.{follow, seen, named-by-links, followed-links}
+use Rattle.arrays.proofs.Names.{follow, seen, named-by-links, followed-links}
 use Rattle.run_sheet.specs.Named.{looked-up-none, looked-up-some}
 use Rattle.steps.specs.Standing.{Standing, Finds}
 use Rattle.steps.specs.Here.{many, here as innermost, live-few, downward}

@@ -5,7 +5,7 @@ use Rattle.std.specs.Prelude.{ℕ, zero, suc, ◌+◌, ◌≤◌, ◌<◌, List,
 use Rattle.std.proofs.Common.{arith, sym, ap, ◌∙◌, eqb-true, length-set, ext_get_or, get_or-set_same, get_or-set_other}
 use Rattle.std.proofs.lemmas.Bool.{eqb-false}
 use Rattle.laws.specs.Tests.{split}
-use Rattle.arrays.specs.Names.{follow}
+use Rattle.arrays.proofs.Names.{follow}
 use Rattle.chain_records.specs.declared.Activation.{Activation}
 use Rattle.chain_records.specs.Records.{no_record, at, hop}
 use Rattle.chain_records.specs.Records as activations

@@ -11,7 +11,7 @@ use Rattle.language.specs.declared.End.{End}
 use Rattle.language.specs.declared.End.TheVariants.{Spent, Stopped as Halts}
 use Rattle.frames.specs.Frame.{Frame, Stack, Result, results, halted, links_followed, frame_step, frame_run, frame_start}
 use Rattle.resolved.specs.Resolved.{level_in}
-use Rattle.arrays.specs.Names.{nothing-live}
+use Rattle.arrays.proofs.Names.{nothing-live}
 use Rattle.steps.specs.Here.{live-few}
 use Rattle.steps.specs.Reads.{at-within, begin-reads}
 use Rattle.steps.specs.Begun.{AtStart, result_from}

@@ -10,7 +10,7 @@ use Rattle.language.specs.Text.{Operation, plus, minus, less}
 use Rattle.laws.specs.Tests.{split}
 use Rattle.resolved.specs.Resolved.{level_in, direct}
 use Rattle.arrays.specs.Found.{held_by, target_by}
-use Rattle.arrays.specs.Names.{follow}
+use Rattle.arrays.proofs.Names.{follow}
 use Rattle.run_moves.specs.declared.Move.{Move}
 use Rattle.run_moves.specs.Acting.{Happened, Op, constant-op, add-op, subtract-op, compare-op, branch-op, goto-op, block-op, call-op, pair-op, unpair-op, query-op}
 use Rattle.run_moves.specs.Acting.{constant-formal-op, arithmetic-formal-op, branch-formal-op, goto-formal-op, call-formal-op, operations, op_of}

@@ -9,9 +9,9 @@ use Rattle.laws.specs.Each.{Each}
 use Rattle.grammar.specs.Rules.{Name, FormedAction, FormedBlock, FormedDecl, FormedStmt, FormedDecls, FormedStmts, Keeps}
 use Rattle.coordinates.specs.Enclosure.{Enclosing, enclosed, Enclosure, Encloses}
 use Rattle.resolved.specs.Resolved.{place_of, end_place, level_in, name_word, Covers}
-use Rattle.resolved.specs.Lengths.{covers_at}
-use Rattle.resolved.specs.Places.{enclosed-formed}
-use Rattle.resolved.specs.NameWords.{Narrow, narrow-of-text, narrow-inner}
+use Rattle.resolved.proofs.Lengths.{covers_at}
+use Rattle.resolved.proofs.Places.{enclosed-formed}
+use Rattle.resolved.proofs.NameWords.{Narrow, narrow-of-text, narrow-inner}
 use Rattle.resolve_fields.specs.Walk.{formals_words, block_words, decl_words, stmt_words, decls_words, stmts_words}
 use Rattle.copy_fields.specs.NameFields.{named_action, name_words, named_of}
 use Rattle.copy_fields.specs.Lengths.{block-length}

@@ -11,8 +11,8 @@ use Rattle.laws.specs.Tests.{none≢some, some_inj}
 use Rattle.grammar.specs.Rules.{Keeps}
 use Rattle.coordinates.specs.Enclosure.{Enclosing, Enclosure, Encloses}
 use Rattle.resolved.specs.Resolved.{place_of, end_place, name_word, Covers}
-use Rattle.resolved.specs.Lengths.{covers_self}
-use Rattle.resolved.specs.Places.{decls_before}
+use Rattle.resolved.proofs.Lengths.{covers_self}
+use Rattle.resolved.proofs.Places.{decls_before}
 use Rattle.resolve_fields.specs.Layout.{before_decl, block-laid, stmt-laid, decl-laid}
 use Rattle.resolve_fields.specs.Layouts.{fields_layout}
 use Rattle.resolve_fields.specs.Walk.{block_words, decl_words, stmt_words, words_layout}

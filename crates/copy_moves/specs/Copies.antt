@@ -23,16 +23,16 @@ use Rattle.grammar.specs.Rules.{Keeps}
 use Rattle.frames.specs.Frame.{Frame, Stack, numbered, position_from}
 use Rattle.frames.specs.Numbered.{numbered-suc}
 use Rattle.frames.specs.Related.{reads_in, reads_at, joined, own_of, Twin, Related, as-deep, twin-at}
-use Rattle.frames.specs.Transfers.{reads_of}
+use Rattle.frames.proofs.Transfers.{reads_of}
 use Rattle.coordinates.specs.Enclosure.{Enclosure, names_of, coordinate_of, Encloses}
 use Rattle.coordinates.specs.Chain.{enclosing, enclosure_of, Chained}
-use Rattle.coordinates.specs.Search.{coordinate-here, coordinate-further, enclosure-none}
-use Rattle.coordinates.specs.Declared.{coordinate-declares}
-use Rattle.coordinates.specs.Levels.{enclosure-of-text}
+use Rattle.coordinates.proofs.Search.{coordinate-here, coordinate-further, enclosure-none}
+use Rattle.coordinates.proofs.Declared.{coordinate-declares}
+use Rattle.coordinates.proofs.Levels.{enclosure-of-text}
 use Rattle.resolved.specs.Resolved.{place_of, end_place, level_in, name_word, Covers}
-use Rattle.resolved.specs.NameWords.{word_none, Narrow, narrow-of-text, name-is}
-use Rattle.resolved.specs.Lengths.{covers_at}
-use Rattle.resolved.specs.Places.{enclosed-formed}
+use Rattle.resolved.proofs.NameWords.{word_none, Narrow, narrow-of-text, name-is}
+use Rattle.resolved.proofs.Lengths.{covers_at}
+use Rattle.resolved.proofs.Places.{enclosed-formed}
 use Rattle.resolve_fields.specs.Walk.{block_words}
 use Rattle.copy_fields.specs.NameFields.{name_words, named_of}
 use Rattle.copy_fields.specs.Lengths.{block-length}

@@ -13,16 +13,16 @@ use Rattle.laws.specs.Tests.{some_inj}
 use Rattle.laws.specs.Lists.{some-last}
 use Rattle.frames.specs.Frame.{Frame, Stack, stepped}
 use Rattle.frames.specs.Related.{Related, as-deep}
-use Rattle.instances.specs.Invariant.{Invariant}
+use Rattle.instances.proofs.Invariant.{Invariant}
 use Rattle.coordinates.specs.Chain.{Chained, SameOutlines}
 use Rattle.resolved.specs.Resolved.{Covers}
 use Rattle.copy_fields.specs.NameFields.{named_of}
 use Rattle.steps.specs.Standing.{Standing}
 use Rattle.steps.specs.Means.{Follows}
 use Rattle.steps.specs.Here.{many, downward}
-use Rattle.copy_machine.specs.Moved.{Keeps, EntersAnew}
-use Rattle.frames.specs.Runs.{CopiesStep, copies-step}
-use Rattle.copy_machine.specs.Together.{copies_kept, copies-entered}
+use Rattle.copy_machine.proofs.Moved.{Keeps, EntersAnew}
+use Rattle.frames.proofs.Runs.{CopiesStep, copies-step}
+use Rattle.copy_machine.proofs.Together.{copies_kept, copies-entered}
 use Rattle.copy_names.specs.Owner.{NewNames}
 use Rattle.copy_names.specs.Finding.{new-names-kept}
 use Rattle.copy_texts.specs.Texts.{Texts, Looks}

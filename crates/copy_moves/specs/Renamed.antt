@@ -18,10 +18,10 @@ use Rattle.grammar.specs.Rules.{FormedBlock, FormedDecl, FormedStmt, FormedDecls
 use Rattle.frames.specs.Frame.{position_from}
 use Rattle.frames.specs.Positions.{position-miss, position-none}
 use Rattle.coordinates.specs.Enclosure.{Enclosing, enclosed, Enclosure, Coordinate, names_of}
-use Rattle.coordinates.specs.Search.{coordinate-here}
-use Rattle.coordinates.specs.Declared.{level-here}
+use Rattle.coordinates.proofs.Search.{coordinate-here}
+use Rattle.coordinates.proofs.Declared.{level-here}
 use Rattle.resolved.specs.Resolved.{visible_words, name_word}
-use Rattle.resolved.specs.NameWords.{Narrow, narrow-inner, name-is}
+use Rattle.resolved.proofs.NameWords.{Narrow, narrow-inner, name-is}
 use Rattle.resolve_fields.specs.Walk.{formals_words, block_words, decl_words, stmt_words, decls_words, stmts_words}
 use Rattle.copy_fields.specs.NameFields.{named_action, name_words}
 use Rattle.copy_fields.specs.Lengths as lengths

@@ -5,7 +5,7 @@
 use Rattle.std.specs.Prelude.{ℕ, ◌+◌, ◌*◌, ◌≤◌, ◌<◌, List, ◌≡◌, ℤ, length}
 use Rattle.language.specs.Encoding.{block_fields}
 use Rattle.language.specs.Machine.{State}
-use Rattle.instances.specs.Invariant.{Invariant}
+use Rattle.instances.proofs.Invariant.{Invariant}
 use Rattle.frames.specs.Related.{Related}
 use Rattle.resolved.specs.Resolved.{Covers}
 use Rattle.steps.specs.Standing.{Standing}

@@ -14,11 +14,11 @@ use Rattle.frames.specs.Frame.{Frame, numbered}
 use Rattle.frames.specs.Numbered.{numbered-suc, numbered-low}
 use Rattle.coordinates.specs.Enclosure.{Enclosing, Enclosure, Encloses}
 use Rattle.coordinates.specs.Chain.{enclosing, enclosure_of, Linked, outermost, within, Chained, outline, SameOutlines}
-use Rattle.coordinates.specs.Kept.{chained-downward}
-use Rattle.coordinates.specs.Search.{enclosure-step}
-use Rattle.coordinates.specs.Levels.{frame-encloses}
+use Rattle.coordinates.proofs.Kept.{chained-downward}
+use Rattle.coordinates.proofs.Search.{enclosure-step}
+use Rattle.coordinates.proofs.Levels.{frame-encloses}
 use Rattle.resolved.specs.Resolved.{place_of}
-use Rattle.resolved.specs.Places.{place-settled}
+use Rattle.resolved.proofs.Places.{place-settled}
 
 pub own-enclosure : (t : Block) (fs : List Frame) → Chained t fs → (k : ℕ) (f : Frame) → get_elem? fs k ≡ some f → enclosure_of fs (suc k) ≡ enclosing f ∷ enclosure_of fs f.link
 own-enclosure t fs chain k f e = enclosure-step fs (chained-downward t fs chain) (suc k) f (numbered-suc fs k ∙ e)

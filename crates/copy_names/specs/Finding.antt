@@ -18,8 +18,8 @@ use Rattle.grammar.specs.Formed.{block-few}
 use Rattle.frames.specs.Frame.{Stack, designates, frame_number, place}
 use Rattle.frames.specs.Numbered.{numbered-zero}
 use Rattle.frames.specs.Related.{joined, designator_for, designator_at, Related, twin-at}
-use Rattle.frames.specs.Find.{as-many-decls, designates-name}
-use Rattle.coordinates.specs.Next.{Resolved}
+use Rattle.frames.proofs.Find.{as-many-decls, designates-name}
+use Rattle.coordinates.proofs.Next.{Resolved}
 use Rattle.arrays.specs.Holds.{cell_of}
 use Rattle.resolved.specs.Layout.{cell_from}
 use Rattle.copy_names.specs.Owner.{owner_in, cell_in, Sorted, NewNames}

@@ -17,8 +17,8 @@ use Rattle.frames.specs.Related.{joined}
 use Rattle.laws.specs.Each.{each_at}
 use Rattle.grammar.specs.Rules.{Name, FormedAction}
 use Rattle.frames.specs.Frame.{Frame, frame_stmt}
-use Rattle.coordinates.specs.Visible.{action_names}
-use Rattle.coordinates.specs.Next.{Resolved}
+use Rattle.coordinates.proofs.Visible.{action_names}
+use Rattle.coordinates.proofs.Next.{Resolved}
 use Rattle.resolved.specs.Resolved.{direct, chosen, name_word, resolved_action, resolved_stmt}
 use Rattle.run_moves.specs.Acting.{Finding, Scene, field, operations, op_of, acting, happens as acts}
 use Rattle.steps.specs.Finding.{finds-by-links}

@@ -11,8 +11,8 @@ use Rattle.laws.specs.Lists.{get_elem-past, get_elem-none}
 use Rattle.frames.specs.Frame.{Frame, Stack, numbered}
 use Rattle.frames.specs.Related.{reads_in, reads_at, Related, as-deep, twin-at}
 use Rattle.coordinates.specs.Chain.{chain_of, level_of, Downward}
-use Rattle.coordinates.specs.Along.{along-none}
-use Rattle.coordinates.specs.Display.{level-step}
+use Rattle.coordinates.proofs.Along.{along-none}
+use Rattle.coordinates.proofs.Display.{level-step}
 
 -- no frame, no level
 level-none : (fs : List Frame) (k : ℕ) → numbered fs k ≡ none → level_of fs k ≡ 0

@@ -15,10 +15,10 @@ use Rattle.frames.specs.Frame.{Frame, Stack, new_frame, stepped}
 use Rattle.frames.specs.Related.{Related, as-deep}
 use Rattle.coordinates.specs.Enclosure.{Enclosing, enclosed, Enclosure, Encloses}
 use Rattle.coordinates.specs.Chain.{enclosing, enclosure_of}
-use Rattle.coordinates.specs.Coordinates.{level-of-text}
+use Rattle.coordinates.proofs.Coordinates.{level-of-text}
 use Rattle.resolved.specs.Resolved.{place_of, end_place, stmt_place, level_in, position_in, direct, name_word, Covers}
-use Rattle.resolved.specs.Places.{block-fields, end_is, end-bound, place-bound, enclosed-formed}
-use Rattle.resolved.specs.Standing.{looked-up-stands}
+use Rattle.resolved.proofs.Places.{block-fields, end_is, end-bound, place-bound, enclosed-formed}
+use Rattle.resolved.proofs.Standing.{looked-up-stands}
 use Rattle.copy_fields.specs.NameFields.{named_of}
 use Rattle.run_moves.specs.Effects.{Cleared}
 use Rattle.steps.specs.Standing.{Standing}

@@ -22,21 +22,21 @@ use Rattle.grammar.specs.Formed.{block-once, block-few}
 use Rattle.frames.specs.Frame.{Frame, Stack, continue, with_frames, stepped, new_frame, numbered, frame_stmt}
 use Rattle.frames.specs.Numbered.{numbered-suc, last-numbered}
 use Rattle.frames.specs.Related.{reads_in, reads_at, joined, own_of, Twin, twin-at}
-use Rattle.frames.specs.Find.{as-many-decls}
-use Rattle.frames.specs.Steps.{next-renamed}
+use Rattle.frames.proofs.Find.{as-many-decls}
+use Rattle.frames.proofs.Steps.{next-renamed}
 use Rattle.coordinates.specs.Enclosure.{Enclosing, enclosed, Enclosure, names_of}
 use Rattle.coordinates.specs.Chain.{enclosure_of}
-use Rattle.coordinates.specs.Coordinates.{level-of-text}
+use Rattle.coordinates.proofs.Coordinates.{level-of-text}
 use Rattle.resolved.specs.Resolved.{place_of}
-use Rattle.resolved.specs.Places.{enclosed-formed}
-use Rattle.resolved.specs.NameWords.{Narrow, narrow-of-text}
+use Rattle.resolved.proofs.Places.{enclosed-formed}
+use Rattle.resolved.proofs.NameWords.{Narrow, narrow-of-text}
 use Rattle.copy_fields.specs.Inside.{named-inside}
 use Rattle.copy_fields.specs.Standing.{declared-fields-named}
 use Rattle.steps.specs.Means.{EntersAt}
 use Rattle.steps.specs.Here.{many, here as last-here, downward}
-use Rattle.copy_machine.specs.Moved.{Hands, EntersAnew}
-use Rattle.frames.specs.Runs.{CopiesStep, copies-step}
-use Rattle.copy_machine.specs.Together.{copies-entered}
+use Rattle.copy_machine.proofs.Moved.{Hands, EntersAnew}
+use Rattle.frames.proofs.Runs.{CopiesStep, copies-step}
+use Rattle.copy_machine.proofs.Together.{copies-entered}
 use Rattle.copy_texts.specs.Renewing.{Inside, Declared, Enters}
 use Rattle.copy_statements.specs.Doing.{text}
 use Rattle.run_state.specs.declared.Registers.{Registers}

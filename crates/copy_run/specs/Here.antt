@@ -11,7 +11,7 @@ use Rattle.language.specs.Machine.{Activation}
 use Rattle.frames.specs.Frame.{frame_stmt}
 use Rattle.frames.specs.Related.{as-deep}
 use Rattle.coordinates.specs.Chain.{enclosing, enclosure_of}
-use Rattle.coordinates.specs.Levels.{in-innermost}
+use Rattle.coordinates.proofs.Levels.{in-innermost}
 use Rattle.resolved.specs.Resolved.{place_of, Covers}
 use Rattle.resolve_fields.specs.Walk.{stmt_words}
 use Rattle.copy_fields.specs.NameFields.{name_words}

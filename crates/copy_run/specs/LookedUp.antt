@@ -10,14 +10,14 @@ use Rattle.laws.specs.Tests.{split}
 use Rattle.laws.specs.Rising.{rising_none}
 use Rattle.frames.specs.Frame.{designates}
 use Rattle.frames.specs.Related.{joined, designator_for, designator_at}
-use Rattle.frames.specs.Find.{designates-name}
+use Rattle.frames.proofs.Find.{designates-name}
 use Rattle.coordinates.specs.Enclosure.{Coordinate, coordinate_of}
 use Rattle.coordinates.specs.Chain.{enclosure_of}
 use Rattle.resolved.specs.Resolved.{name_word}
 use Rattle.arrays.specs.Holds.{cell_of, designator_of}
-use Rattle.arrays.specs.Cells.{Celled, cell-bound, designator-of-cell}
-use Rattle.arrays.specs.Names.{seen}
-use Rattle.arrays.specs.Found.{named-celled}
+use Rattle.arrays.proofs.Cells.{Celled, cell-bound, designator-of-cell}
+use Rattle.arrays.proofs.Names.{seen}
+use Rattle.arrays.proofs.Found.{named-celled}
 use Rattle.steps.specs.Here.{many, live-few}
 use Rattle.steps.specs.Finding.{word_of, unseen-word}
 use Rattle.copy_names.specs.Owner.{cell_in}

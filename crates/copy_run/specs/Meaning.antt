@@ -7,7 +7,7 @@ use Rattle.std.proofs.Math.ListN.{get_elem?}
 use Rattle.language.specs.Text.{Stmt, CL, GO, IF, KN, AR, AD, RM, QY, BK, DO}
 use Rattle.language.specs.Machine.{Activation}
 use Rattle.frames.specs.Frame.{frame_stmt}
-use Rattle.resolved.specs.Places.{stmt-fields}
+use Rattle.resolved.proofs.Places.{stmt-fields}
 use Rattle.run_moves.specs.Acting.{acting}
 use Rattle.steps.specs.Means.{Means}
 use Rattle.steps.specs.Here.{live-few, next-stmt}

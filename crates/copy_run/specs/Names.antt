@@ -13,13 +13,13 @@ use Rattle.frames.specs.Numbered.{numbered-index}
 use Rattle.frames.specs.Related.{joined}
 use Rattle.frame_laws.specs.Finding.{decl_of-found}
 use Rattle.coordinates.specs.Chain.{enclosing, level_of}
-use Rattle.coordinates.specs.Levels.{enclosure-of-text}
-use Rattle.coordinates.specs.Next.{Resolved}
+use Rattle.coordinates.proofs.Levels.{enclosure-of-text}
+use Rattle.coordinates.proofs.Next.{Resolved}
 use Rattle.resolved.specs.Resolved.{name_word}
-use Rattle.resolved.specs.NameWords.{narrow-of-text, name-is}
+use Rattle.resolved.proofs.NameWords.{narrow-of-text, name-is}
 use Rattle.arrays.specs.Holds.{cell_of, target_of, formal_word}
-use Rattle.arrays.specs.Cells.{Celled, cell-bound, cell-activation, target_found}
-use Rattle.arrays.specs.Found.{named-celled}
+use Rattle.arrays.proofs.Cells.{Celled, cell-bound, cell-activation, target_found}
+use Rattle.arrays.proofs.Found.{named-celled}
 use Rattle.run_moves.specs.Acting.{Finding, field}
 use Rattle.steps.specs.Here.{many, numbered-here, downward}
 use Rattle.steps.specs.Finding.{by_first, first_by_links, finds-by-links}

@@ -21,14 +21,14 @@ use Rattle.grammar.specs.Words.{length-bytes}
 use Rattle.grammar.proofs.Standing.{program-stands}
 use Rattle.frames.specs.Frame.{Frame, Stack, new_frame, frame_start, numbered}
 use Rattle.frames.specs.Related.{reads_in, reads_at, own_of, Twin, Related, twin-at}
-use Rattle.frames.specs.Runs.{start-related}
-use Rattle.frames.specs.Find.{as-many-decls}
+use Rattle.frames.proofs.Runs.{start-related}
+use Rattle.frames.proofs.Find.{as-many-decls}
 use Rattle.coordinates.specs.Enclosure.{Enclosing, enclosed, whole, names_of, Encloses}
 use Rattle.resolved.specs.Resolved.{place_of, end_place, stmt_place, level_in, position_in, direct, name_word, resolved_of, Covers}
-use Rattle.resolved.specs.Places.{block-at, block-place, end-bound, end_is}
-use Rattle.resolved.specs.Standing.{head-stands, looked-up-stands}
-use Rattle.resolved.specs.Words.{head-names}
-use Rattle.resolved.specs.NameWords.{Narrow, narrow-of-text}
+use Rattle.resolved.proofs.Places.{block-at, block-place, end-bound, end_is}
+use Rattle.resolved.proofs.Standing.{head-stands, looked-up-stands}
+use Rattle.resolved.proofs.Words.{head-names}
+use Rattle.resolved.proofs.NameWords.{Narrow, narrow-of-text}
 use Rattle.copy_fields.specs.NameFields.{named_of}
 use Rattle.copy_fields.specs.Inside.{named-inside}
 use Rattle.copy_fields.specs.Standing.{declared-fields-named}
@@ -37,7 +37,7 @@ use Rattle.steps.specs.Begun.{AtStart}
 use Rattle.steps.specs.Reads.{begin-reads}
 use Rattle.steps.specs.Loop.{begins}
 use Rattle.resolved.specs.Layout.{names_in, end_in, first_in}
-use Rattle.copy_machine.specs.Start.{StartsAnew, starts-anew, start-invariant}
+use Rattle.copy_machine.proofs.Start.{StartsAnew, starts-anew, start-invariant}
 use Rattle.copy_names.specs.Owner.{NewNames}
 use Rattle.copy_names.specs.Finding.{new-names-start}
 use Rattle.copy_texts.specs.Texts.{renewed, Copied, noted_from, Texts, Aims, Looks}

@@ -14,8 +14,8 @@ use Rattle.language.specs.Machine.{Activation}
 use Rattle.grammar.specs.Rules.{FormedAction}
 use Rattle.frames.specs.Frame.{Frame, frame_stmt}
 use Rattle.coordinates.specs.Enclosure.{Enclosing}
-use Rattle.coordinates.specs.Visible.{action_names}
-use Rattle.coordinates.specs.Next.{Resolved}
+use Rattle.coordinates.proofs.Visible.{action_names}
+use Rattle.coordinates.proofs.Next.{Resolved}
 use Rattle.resolved.specs.Resolved.{direct, chosen, name_word, head_word, header, resolved_action, resolved_stmt}
 use Rattle.run_moves.specs.declared.Ask.TheVariants.{Add, Remove}
 use Rattle.run_moves.specs.Acting.{Finding, Scene, Happened, field, operations, operation_of, constant-op, block-op, op_of, acting, happens as acts, do_arithmetic as act_arithmetic}

@@ -9,7 +9,7 @@ use Rattle.language.specs.Encoding.{block_fields, stmt_fields}
 use Rattle.grammar.specs.Rules.{Keeps}
 use Rattle.coordinates.specs.Enclosure.{Enclosing, Enclosure, StandsIn, as-block, as-body, Encloses}
 use Rattle.resolved.specs.Resolved.{place_of, end_place}
-use Rattle.resolved.specs.Places.{Placed, enclosed-placed, before, before-next, before-within, before_body, body-within, block-place, end_is, stmt-stands, body-stands}
+use Rattle.resolved.proofs.Places.{Placed, enclosed-placed, before, before-next, before-within, before_body, body-within, block-place, end_is, stmt-stands, body-stands}
 
 module _ (t : Block) (keeps : Keeps t) where
   pub text-within : (e : Enclosing) (es : Enclosure) → Encloses t (e ∷ es) → end_place e.text ≤ length (block_fields t)

@@ -20,10 +20,10 @@ use Rattle.frames.specs.Frame.{frame_stmt}
 use Rattle.frames.specs.Related.{joined, as-deep}
 use Rattle.coordinates.specs.Enclosure.{Enclosure}
 use Rattle.coordinates.specs.Chain.{enclosing, enclosure_of}
-use Rattle.coordinates.specs.Next.{NextAction, next-action}
+use Rattle.coordinates.proofs.Next.{NextAction, next-action}
 use Rattle.resolved.specs.Resolved.{place_of, end_place, stmt_place, level_in, resolved_stmt, Covers}
-use Rattle.resolved.specs.Lengths.{covers_at}
-use Rattle.resolved.specs.Places.{Placed, enclosed-placed, block-place, end_is, place_is, place-within}
+use Rattle.resolved.proofs.Lengths.{covers_at}
+use Rattle.resolved.proofs.Places.{Placed, enclosed-placed, block-place, end_is, place_is, place-within}
 use Rattle.run_moves.specs.Acting.{Scene, field}
 use Rattle.steps.specs.Here.{many, last-is, here as last-here, covered, at-is, here-bounded, encloses-here, within-activations, goes-on-at}
 use Rattle.steps.specs.Reads.{fields_within}

@@ -14,12 +14,12 @@ use Rattle.laws.specs.Lists.{get_elem-bound, get_elem-after, get_elem?-map}
 use Rattle.frames.specs.Frame.{Frame, position_from}
 use Rattle.coordinates.specs.Enclosure.{Enclosing, enclosed, Enclosure, Coordinate, names_of}
 use Rattle.coordinates.specs.Chain.{enclosing, outline, SameOutlines}
-use Rattle.coordinates.specs.Search.{coordinate-here}
-use Rattle.coordinates.specs.Declared.{level-here}
+use Rattle.coordinates.proofs.Search.{coordinate-here}
+use Rattle.coordinates.proofs.Declared.{level-here}
 use Rattle.resolved.specs.Resolved.{place_of, end_place, position_in, level_in, target_in, direct, decl_target, name_word}
 use Rattle.resolved.specs.Layout.{cell_from}
 use Rattle.copy_texts.specs.Texts.{Aims, noted_from}
-use Rattle.resolved.specs.NameWords.{Narrow, name-is}
+use Rattle.resolved.proofs.NameWords.{Narrow, name-is}
 use Rattle.copy_texts.specs.Readings.{position_here, position-there, owned}
 use Rattle.copy_texts.specs.Renewing.{NamesStand, Inside, Declared}
 use Rattle.copy_texts.specs.Stacks.{OneMore, frame-before, by_index}

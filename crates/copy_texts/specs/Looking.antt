@@ -16,11 +16,11 @@ use Rattle.frames.specs.Numbered.{numbered-suc}
 use Rattle.frames.specs.Related.{joined}
 use Rattle.coordinates.specs.Enclosure.{Enclosing, enclosed, Enclosure, Coordinate, names_of, coordinate_of}
 use Rattle.coordinates.specs.Chain.{enclosing, along, enclosure_of, SameOutlines, Downward}
-use Rattle.coordinates.specs.Search.{coordinate-here, coordinate-further, enclosure-step}
-use Rattle.coordinates.specs.Declared.{coordinate-declares}
-use Rattle.coordinates.specs.Statement.{enclosure-alike}
+use Rattle.coordinates.proofs.Search.{coordinate-here, coordinate-further, enclosure-step}
+use Rattle.coordinates.proofs.Declared.{coordinate-declares}
+use Rattle.coordinates.proofs.Statements.{enclosure-alike}
 use Rattle.resolved.specs.Resolved.{position_in, level_in, name_word}
-use Rattle.resolved.specs.NameWords.{word_none, word-none-iff, Narrow, name-is}
+use Rattle.resolved.proofs.NameWords.{word_none, word-none-iff, Narrow, name-is}
 use Rattle.copy_texts.specs.Texts.{read_as, Looks, renewed}
 use Rattle.copy_texts.specs.Readings.{coordinate-hidden, owned, own-within, own-reads, own-hidden}
 use Rattle.copy_texts.specs.Renewing.{Enters, renewed-other, renamed-near, renamed-far, values_of, values-many, reads-own, renewed-own}

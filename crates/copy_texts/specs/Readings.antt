@@ -12,10 +12,10 @@ use Rattle.laws.specs.Lists.{get_elem-seam}
 use Rattle.laws.specs.Lookup.{lookup-here, lookup-there}
 use Rattle.frames.specs.Frame.{position_from}
 use Rattle.coordinates.specs.Enclosure.{Enclosing, Enclosure, Coordinate, names_of, coordinate_of, at_level}
-use Rattle.coordinates.specs.Search.{coordinate-here, coordinate-further}
-use Rattle.coordinates.specs.Declared.{coordinate-declares, level-at}
+use Rattle.coordinates.proofs.Search.{coordinate-here, coordinate-further}
+use Rattle.coordinates.proofs.Declared.{coordinate-declares, level-at}
 use Rattle.resolved.specs.Resolved.{position_in, formal_in, level_in, target_in, direct, decl_target, name_word}
-use Rattle.resolved.specs.NameWords.{word_none, position-bounds, Narrow, name-is}
+use Rattle.resolved.proofs.NameWords.{word_none, position-bounds, Narrow, name-is}
 
 -- The own names of one block
 

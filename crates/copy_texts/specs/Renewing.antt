@@ -23,7 +23,7 @@ use Rattle.laws.specs.Renaming.{renamed-some, renamed-same}
 use Rattle.frames.specs.Related.{joined}
 use Rattle.coordinates.specs.Enclosure.{Enclosing, Enclosure, names_of}
 use Rattle.resolved.specs.Resolved.{place_of, end_place, position_in, level_in, direct, name_word}
-use Rattle.resolved.specs.NameWords.{Narrow}
+use Rattle.resolved.proofs.NameWords.{Narrow}
 use Rattle.copy_texts.specs.Texts.{reading, renewed}
 use Rattle.copy_texts.specs.Readings.{Owned, owned, own-within, own-reads, own-hidden}
 

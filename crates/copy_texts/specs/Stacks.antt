@@ -10,7 +10,7 @@ use Rattle.laws.specs.Lists.{get_elem-in, get_elem-bound}
 use Rattle.frames.specs.Frame.{Frame}
 use Rattle.frames.specs.Numbered.{numbered-suc}
 use Rattle.coordinates.specs.Chain.{outline, SameOutlines}
-use Rattle.coordinates.specs.Along.{alike-some}
+use Rattle.coordinates.proofs.Along.{alike-some}
 
 -- the first n activations differ in nothing but where they go on
 abbrev pub SameActivations : ℕ → List Activation → List Activation → Type 0

@@ -13,12 +13,12 @@ use Rattle.frames.specs.Frame.{Frame, numbered}
 use Rattle.frames.specs.Numbered.{numbered-suc, numbered-index}
 use Rattle.coordinates.specs.Enclosure.{Enclosing, enclosed, Enclosure, Encloses}
 use Rattle.coordinates.specs.Chain.{enclosing, enclosure_of, level_of, display_from}
-use Rattle.coordinates.specs.Levels.{frame-encloses}
+use Rattle.coordinates.proofs.Levels.{frame-encloses}
 use Rattle.resolved.specs.Resolved.{place_of, end_place, level_in}
-use Rattle.resolved.specs.Places.{block-fields, end_is, end-bound, place-bound, enclosed-formed}
+use Rattle.resolved.proofs.Places.{block-fields, end_is, end-bound, place-bound, enclosed-formed}
 use Rattle.arrays.specs.Holds.{Shows}
 use Rattle.arrays.specs.Displays.{ShowsFrom, holds-links, shows-innermost}
-use Rattle.arrays.specs.Reading.{level-read, end_read}
+use Rattle.arrays.proofs.Reading.{level-read, end_read}
 use Rattle.run_moves.specs.Effects.{Cleared}
 use Rattle.resolved.specs.Layout.{formals_in, names_in, end_in, first_in, cell_from}
 use Rattle.steps.specs.Means.{JumpsTo, EntersAt}

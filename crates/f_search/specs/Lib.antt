@@ -3,14 +3,3 @@
 pub mod Numbers
 pub mod Passers
 pub mod Search
-pub mod Examples
-pub mod Kept
-pub mod Stepped
-pub mod Distinct
-pub mod Numbered
-pub mod OnChain
-pub mod Entered
-pub mod FirstPassed
-pub mod Theorem
-pub mod Enclosers
-pub mod Stated

@@ -7,7 +7,7 @@ use Rattle.language.specs.Basics.{up_from}
 use Rattle.language.specs.Text.{Block, block_at}
 use Rattle.frames.specs.Frame.{position_from}
 use Rattle.coordinates.specs.Enclosure.{Enclosing, Enclosure, names_of}
-use Rattle.coordinates.specs.Index.{is_block, is-action, Entry, index_of}
+use Rattle.coordinates.proofs.Index.{is_block, is-action, Entry, index_of}
 use Rattle.resolved.specs.Resolved.{place_of}
 
 -- the number of a block's first name

@@ -4,7 +4,7 @@ use Rattle.std.specs.Prelude.{ℕ, zero, suc, pred, ◌-◌, true, false, List, 
 use Rattle.std.proofs.Math.Option.{Option, none, some}
 use Rattle.frames.specs.Frame.{Frame, numbered, finally}
 use Rattle.coordinates.specs.Chain.{enclosing, level_of}
-use Rattle.coordinates.specs.Coordinates.{instance_at}
+use Rattle.coordinates.proofs.Coordinates.{instance_at}
 use Rattle.f_search.specs.Numbers.{first_number, introduces}
 use Rattle.f_search.specs.Passers.{passer_of}
 

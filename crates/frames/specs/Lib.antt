@@ -1,8 +1,6 @@
 -- The frame machine, and that it runs as the copy rule does. Frame has the definitions, Theorem the claim; between them, in order,
 -- what the proof is made of. Numbered and Running have laws that the crates above this one cite.
 pub mod Frame
-pub mod Examples
-pub mod Theorem
 pub mod Both
 pub mod Renaming
 pub mod Positions
@@ -10,12 +8,3 @@ pub mod Numbered
 pub mod Running
 pub mod Fine
 pub mod Related
-pub mod Cuts
-pub mod Find
-pub mod Designated
-pub mod Store
-pub mod Push
-pub mod Actions
-pub mod Transfers
-pub mod Steps
-pub mod Runs

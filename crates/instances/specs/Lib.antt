@@ -1,12 +1,3 @@
 -- Every name that a statement uses as it is done is new and has one live declared instance, of the kind wanted: Statement says it,
 -- Theorems proves it, Invariant is what every state of a run has.
 pub mod Statement
-pub mod Closed
-pub mod Accepted
-pub mod Renaming
-pub mod Invariant
-pub mod Found
-pub mod Entering
-pub mod Steps
-pub mod Once
-pub mod Theorems

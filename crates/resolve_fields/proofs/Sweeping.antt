@@ -16,8 +16,8 @@ use Rattle.grammar.proofs.Accepting.{accepted-keeps}
 use Rattle.grammar.proofs.Standing.{program-stands}
 use Rattle.coordinates.specs.Enclosure.{Enclosure}
 use Rattle.resolved.specs.Resolved.{resolved_of, Covers}
-use Rattle.resolved.specs.Lengths.{covers-first, covers-second, covers-front}
-use Rattle.resolved.specs.Places.{block-at}
+use Rattle.resolved.proofs.Lengths.{covers-first, covers-second, covers-front}
+use Rattle.resolved.proofs.Places.{block-at}
 use Rattle.check_extents.specs.Items.{Item, formal, body, declared, stated, block_head, head_fields}
 use Rattle.check_extents.specs.Passing.{Passed}
 use Rattle.check_extents.specs.declared.passing.Step.{Step}

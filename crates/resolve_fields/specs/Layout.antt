@@ -17,8 +17,8 @@ use Rattle.laws.specs.Lists.{lengths-append}
 use Rattle.grammar.specs.Rules.{Keeps}
 use Rattle.coordinates.specs.Enclosure.{Enclosing, enclosed, Enclosure, StandsIn, as-block, as-body, whole, Encloses}
 use Rattle.resolved.specs.Resolved.{place_of, Covers}
-use Rattle.resolved.specs.Lengths.{covers-first, covers-second}
-use Rattle.resolved.specs.Places.{stmts_before, decls_before, before, before_body, block-place, stmt-stands, body-stands, enclosed-formed}
+use Rattle.resolved.proofs.Lengths.{covers-first, covers-second}
+use Rattle.resolved.proofs.Places.{stmts_before, decls_before, before, before_body, block-place, stmt-stands, body-stands, enclosed-formed}
 
 pub record Layout : Type 0 where
   pub of_formals : List Formal → List ℕ

@@ -3,7 +3,7 @@ use Rattle.std.specs.Prelude.{ℕ, [], ◌∷◌, refl, length}
 use Rattle.language.specs.Text.{block_decls, block_stmts}
 use Rattle.language.specs.Encoding.{BK-mark, PR-mark, formals_fields, block_fields, decl_fields, stmt_fields, decls_fields, stmts_fields}
 use Rattle.resolved.specs.Resolved.{name_word, header, resolved_formals, resolved_block, resolved_decl, resolved_stmt, resolved_decls, resolved_stmts}
-use Rattle.resolved.specs.Lengths.{action-length}
+use Rattle.resolved.proofs.Lengths.{action-length}
 use Rattle.resolve_fields.specs.Layout.{Layout}
 
 unfoldable pub fields_layout : Layout

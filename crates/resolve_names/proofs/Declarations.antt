@@ -14,7 +14,7 @@ use Rattle.language.specs.Text.{Formal, Block, block, Decl, VR, LB, PR, Decls, n
 use Rattle.language.specs.Encoding.{kind_field, formals_fields, block_fields, decl_fields, decls_fields, FM-mark, LB-mark, PR-mark}
 use Rattle.grammar.specs.Rules.{FormedBlock, FormedDecl, FormedDecls}
 use Rattle.resolved.specs.Resolved.{packed, decl_target, decl_kind_field, formal_words, decl_words}
-use Rattle.resolved.specs.Lengths.{formals-fields}
+use Rattle.resolved.proofs.Lengths.{formals-fields}
 use Rattle.laws.specs.Fields.{field_at, FieldsStand, fields-first, fields-after, fields-third}
 use Rattle.check_symbols.specs.Entries.{entry_from}
 use Rattle.check_extents.specs.Items.{declared, item_fields}

@@ -10,7 +10,7 @@ use Rattle.language.specs.Encoding.{block_fields, BK-mark}
 use Rattle.grammar.specs.Rules.{FormedBlock}
 use Rattle.coordinates.specs.Enclosure.{enclosed, Enclosure}
 use Rattle.resolved.specs.Resolved.{end_place, head_word, bounds_word, header, name_word, resolved_formals, resolved_block, resolved_decls}
-use Rattle.resolved.specs.Lengths.{formals-length, formals-fields}
+use Rattle.resolved.proofs.Lengths.{formals-length, formals-fields}
 use Rattle.laws.specs.Fields.{field_at}
 use Rattle.check_symbols.specs.Chains.{Chained, Rechained}
 use Rattle.check_symbols.proofs.Chains.{kept_from, chained-still}

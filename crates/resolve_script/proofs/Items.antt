@@ -8,7 +8,7 @@ use lib.ListN.{length, drop, length-append}
 use Rattle.language.specs.Text.{Decls, no-decl, decl, Stmts, no-stmt, stmt, decls, stmts}
 use Rattle.coordinates.specs.Enclosure.{Enclosure}
 use Rattle.resolved.specs.Resolved.{resolved_decl, resolved_stmt, resolved_decls, resolved_stmts}
-use Rattle.resolved.specs.Lengths.{decl-length, stmt-length}
+use Rattle.resolved.proofs.Lengths.{decl-length, stmt-length}
 use Rattle.check_extents.specs.Items.{Item, formal, body, declared, stated, item_fields, items_fields}
 use Rattle.check_scope.proofs.Marked.{first-here, first-inside, others-here}
 use Rattle.check_scope.specs.Walking.{FormedItem, ItemsHere, Ready, Kept}

@@ -13,7 +13,7 @@ use Rattle.grammar.specs.Words.{fields-are-names, length-bytes}
 use Rattle.grammar.proofs.Reading.{GotBlock, read-program}
 use Rattle.grammar.proofs.Accepting.{accepted-read, accepted-keeps}
 use Rattle.resolved.specs.Resolved.{visible_words, resolved_formals, resolved_of}
-use Rattle.resolved.specs.Lengths.{block-length}
+use Rattle.resolved.proofs.Lengths.{block-length}
 use Rattle.laws.specs.Fields.{FieldsStand, fields-first, fields-stand}
 use Rattle.check_scope.specs.Walking.{BlockHere}
 use Rattle.resolve_script.specs.Resolving.{BlockIs, BlockWritten}

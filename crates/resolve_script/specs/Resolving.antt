@@ -6,7 +6,7 @@ use Rattle.language.specs.Encoding.{formals_fields, block_fields}
 use Rattle.language.specs.Check.{accepted, check}
 use Rattle.coordinates.specs.Enclosure.{Enclosure, enclosed}
 use Rattle.resolved.specs.Resolved.{stmt_place, head_word, name_word, resolved_formals, resolved_block, resolved_decl, resolved_stmt, resolved_of, Covers}
-use Rattle.resolved.specs.Lengths.{covers-front}
+use Rattle.resolved.proofs.Lengths.{covers-front}
 use Rattle.laws.specs.Fields.{FieldsStand}
 use Rattle.check_symbols.specs.Chains.{Chained}
 use Rattle.check_extents.specs.Passing.{Ends}

@@ -1,9 +1,3 @@
 -- The resolved script, in reading order: the definition, then laws of it. A proof about an engine cites Places, Standing, Words and NameWords.
 pub mod Resolved
 pub mod Layout
-pub mod Lengths
-pub mod Places
-pub mod Standing
-pub mod NameWords
-pub mod Words
-pub mod Examples

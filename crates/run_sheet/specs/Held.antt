@@ -20,15 +20,15 @@ use Rattle.frame_laws.specs.Innermost.{frame_words-length}
 use Rattle.frame_laws.specs.Bounds.{BoundedFrames}
 use Rattle.coordinates.specs.Enclosure.{Enclosure, Encloses}
 use Rattle.coordinates.specs.Chain.{enclosing, enclosure_of, Linked, outermost, within, Chained}
-use Rattle.coordinates.specs.Levels.{frame-encloses}
-use Rattle.coordinates.specs.Kept.{chained-downward}
+use Rattle.coordinates.proofs.Levels.{frame-encloses}
+use Rattle.coordinates.proofs.Kept.{chained-downward}
 use Rattle.resolved.specs.Resolved.{place_of, stmt_place, resolved_of, Covers}
-use Rattle.resolved.specs.Places.{block-fields, stmt-place, even-block, enclosed-next, place-bound, end-bound}
-use Rattle.resolved.specs.Standing.{bounds-stands}
-use Rattle.resolved.specs.Words.{bounds-first}
+use Rattle.resolved.proofs.Places.{block-fields, stmt-place, even-block, enclosed-next, place-bound, end-bound}
+use Rattle.resolved.proofs.Standing.{bounds-stands}
+use Rattle.resolved.proofs.Words.{bounds-first}
 use Rattle.arrays.specs.Holds.{designator_of, formal_word, Holds}
-use Rattle.arrays.specs.Cells.{points-celled, designator-of-cell, word_cell}
-use Rattle.arrays.specs.Reading.{formals-read, names-read}
+use Rattle.arrays.proofs.Cells.{points-celled, designator-of-cell, word_cell}
+use Rattle.arrays.proofs.Reading.{formals-read, names-read}
 use Rattle.resolved.specs.Layout.{first_in, cell_from, cell_in}
 use Rattle.run_sheet.specs.Sizes.{size_at, readable, end-sum, size-read}
 use Rattle.run_sheet.specs.Shown.{Passes, Counts, Owned, Shown, written_none}

@@ -13,9 +13,9 @@ use Rattle.language.specs.Encoding.{operation_field, action_fields, block_fields
 use Rattle.grammar.specs.Rules.{Keeps}
 use Rattle.coordinates.specs.Enclosure.{Enclosing, enclosed, Enclosure, as-block, Encloses}
 use Rattle.resolved.specs.Resolved.{place_of, end_place, chosen, resolved_action, resolved_of, Covers}
-use Rattle.resolved.specs.Places.{block-fields}
-use Rattle.resolved.specs.Standing.{action-covered, head-stands, bounds-stands}
-use Rattle.resolved.specs.Words.{head-operation, bounds-end}
+use Rattle.resolved.proofs.Places.{block-fields}
+use Rattle.resolved.proofs.Standing.{action-covered, head-stands, bounds-stands}
+use Rattle.resolved.proofs.Words.{head-operation, bounds-end}
 use Rattle.resolved.specs.Layout.{operation_in, end_in}
 
 -- four bits for each operation but the one that enters a block; a call's arguments come on top

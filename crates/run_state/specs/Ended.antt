@@ -7,7 +7,7 @@ use Rattle.language.specs.Text.{Block}
 use Rattle.language.specs.Machine.{Limits}
 use Rattle.language.specs.declared.Stop.{Stop}
 use Rattle.frames.specs.Frame.{Result, halted, designates, frame_step, frame_run, frame_start}
-use Rattle.coordinates.specs.Sound.{Sound}
+use Rattle.coordinates.proofs.Sound.{Sound}
 use Rattle.steps.specs.Standing.{Standing}
 use Rattle.steps.specs.Begun.{Begun, AtStart}
 use Rattle.steps.specs.Underway as steps

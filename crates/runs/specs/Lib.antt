@@ -16,5 +16,3 @@ pub mod Designators
 pub mod Admission
 pub mod Calls
 pub mod Causes
-pub mod Stopping
-pub mod CallStops

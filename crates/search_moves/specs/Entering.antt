@@ -12,9 +12,9 @@ use Rattle.frames.specs.Frame.{Frame, Stack, with_frames, stepped}
 use Rattle.coordinates.specs.Enclosure.{Enclosing, enclosed, Enclosure}
 use Rattle.coordinates.specs.Chain.{enclosing, enclosure_of}
 use Rattle.f_search.specs.Search.{onward}
-use Rattle.f_search.specs.Theorem.{onward-below}
+use Rattle.f_search.proofs.Theorem.{onward-below}
 use Rattle.resolved.specs.Resolved.{place_of, end_place, stmt_place}
-use Rattle.resolved.specs.Places.{block-fields, end-bound, place-bound, enclosed-formed}
+use Rattle.resolved.proofs.Places.{block-fields, end-bound, place-bound, enclosed-formed}
 use Rattle.resolved.specs.Layout.{cell_from}
 use Rattle.run_moves.specs.Effects.{Cleared}
 use Rattle.steps.specs.Means.{EntersAt}

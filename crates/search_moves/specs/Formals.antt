@@ -14,16 +14,16 @@ use Rattle.frames.specs.Frame.{Frame, numbered, designates}
 use Rattle.frames.specs.Numbered.{numbered-low, numbered-index}
 use Rattle.coordinates.specs.Enclosure.{Coordinate}
 use Rattle.coordinates.specs.Chain.{enclosing, enclosure_of, level_of, climb}
-use Rattle.coordinates.specs.Coordinates.{instance_at}
-use Rattle.coordinates.specs.Levels.{enclosure-of-text}
-use Rattle.coordinates.specs.Designated.{Designated}
-use Rattle.coordinates.specs.Next.{Resolved}
+use Rattle.coordinates.proofs.Coordinates.{instance_at}
+use Rattle.coordinates.proofs.Levels.{enclosure-of-text}
+use Rattle.coordinates.proofs.Designated.{Designated}
+use Rattle.coordinates.proofs.Next.{Resolved}
 use Rattle.f_search.specs.Passers.{formal_of, passer}
-use Rattle.f_search.specs.Entered.{formal-from, formal-there, declared-there}
+use Rattle.f_search.proofs.Entered.{formal-from, formal-there, declared-there}
 use Rattle.resolved.specs.Resolved.{position_in, level_in, kind_in, direct, name_word}
-use Rattle.resolved.specs.NameWords as words
-use Rattle.arrays.specs.Found.{direct_is, formal-is}
-use Rattle.arrays.specs.Names.{follow, follow-climbs, named-by-links}
+use Rattle.resolved.proofs.NameWords as words
+use Rattle.arrays.proofs.Found.{direct_is, formal-is}
+use Rattle.arrays.proofs.Names.{follow, follow-climbs, named-by-links}
 use Rattle.steps.specs.Standing.{Standing}
 use Rattle.steps.specs.Here.{many, numbered-here, downward}
 use Rattle.steps.specs.Reads.{links-there}

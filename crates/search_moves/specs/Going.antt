@@ -4,8 +4,8 @@ use Rattle.std.specs.Prelude.{ℕ, suc, ◌-◌, ◌≤◌, List, ◌≡◌, ℤ
 use Rattle.std.proofs.Common.{arith, sym, ◌∙◌, subst}
 use Rattle.std.proofs.Math.Path.{ap}
 use Rattle.frames.specs.Frame.{Frame, Stack, numbered, stepped}
-use Rattle.f_search.specs.Kept.{SameCalls}
-use Rattle.f_search.specs.Stepped.{step-calls}
+use Rattle.f_search.proofs.Kept.{SameCalls}
+use Rattle.f_search.proofs.Stepped.{step-calls}
 use Rattle.resolved.specs.Resolved.{Covers}
 use Rattle.steps.specs.Standing.{Standing}
 use Rattle.steps.specs.Means.{Follows, GoesOn, JumpsTo}

@@ -11,10 +11,10 @@ use Rattle.frames.specs.Frame.{Frame}
 use Rattle.frames.specs.Numbered.{numbered-suc, numbered-index}
 use Rattle.coordinates.specs.Enclosure.{Enclosing}
 use Rattle.coordinates.specs.Chain.{enclosing, outline, Downward}
-use Rattle.coordinates.specs.Along.{alike-some}
+use Rattle.coordinates.proofs.Along.{alike-some}
 use Rattle.f_search.specs.Passers.{passer}
 use Rattle.f_search.specs.Search.{onward}
-use Rattle.f_search.specs.Kept.{SameCalls, passer-alike, onward-alike}
+use Rattle.f_search.proofs.Kept.{SameCalls, passer-alike, onward-alike}
 use Rattle.search_moves.specs.Running.{formal_in, Froms, Passers}
 
 module _ (b : ℕ) (fs gs : List Frame) (same : SameCalls b fs gs) (down : Downward fs) where

@@ -16,21 +16,21 @@ use Rattle.frames.specs.Frame.{Frame, numbered, frame_stmt}
 use Rattle.frames.specs.Numbered.{numbered-suc, numbered-zero, numbered-low, numbered-high, numbered-index, numbered-exists}
 use Rattle.coordinates.specs.Enclosure.{Enclosing, Enclosure, Coordinate, Encloses, coordinate_of}
 use Rattle.coordinates.specs.Chain.{enclosing, enclosure_of, level_of, climb}
-use Rattle.coordinates.specs.Declared.{coordinate-declares}
-use Rattle.coordinates.specs.Coordinates.{level-of-text, declaring-frame}
-use Rattle.coordinates.specs.Kept.{chained-downward}
-use Rattle.coordinates.specs.Levels.{enclosure-of-text, frame-encloses, enclosure-names, in-innermost}
-use Rattle.coordinates.specs.Visible.{action_names}
-use Rattle.coordinates.specs.Next.{Resolved, next-action}
+use Rattle.coordinates.proofs.Declared.{coordinate-declares}
+use Rattle.coordinates.proofs.Coordinates.{level-of-text, declaring-frame}
+use Rattle.coordinates.proofs.Kept.{chained-downward}
+use Rattle.coordinates.proofs.Levels.{enclosure-of-text, frame-encloses, enclosure-names, in-innermost}
+use Rattle.coordinates.proofs.Visible.{action_names}
+use Rattle.coordinates.proofs.Next.{Resolved, next-action}
 use Rattle.f_search.specs.Numbers.{first_number, introduces, number_of}
 use Rattle.f_search.specs.Search.{onward, search_within, search}
-use Rattle.f_search.specs.Theorem.{introduced, search-nowhere, search-here, search-on, onward-below, onward-low, declarer-introduces, search-climbs}
+use Rattle.f_search.proofs.Theorem.{introduced, search-nowhere, search-here, search-on, onward-below, onward-low, declarer-introduces, search-climbs}
 use Rattle.resolved.specs.Resolved.{place_of, name_word, resolved_action, resolved_stmt, Covers}
-use Rattle.resolved.specs.Lengths.{covers_at}
-use Rattle.resolved.specs.Places.{place-settled}
-use Rattle.resolved.specs.NameWords.{narrow-of-text, name-is}
+use Rattle.resolved.proofs.Lengths.{covers_at}
+use Rattle.resolved.proofs.Places.{place-settled}
+use Rattle.resolved.proofs.NameWords.{narrow-of-text, name-is}
 use Rattle.arrays.specs.Displays.{holds-links}
-use Rattle.arrays.specs.Names.{follow, follow-climbs, seen}
+use Rattle.arrays.proofs.Names.{follow, follow-climbs, seen}
 use Rattle.run_moves.specs.Acting.{Op, constant-op, add-op, subtract-op, compare-op, branch-op, goto-op, block-op, call-op, pair-op, unpair-op, query-op, constant-formal-op, arithmetic-formal-op, branch-formal-op, goto-formal-op, call-formal-op, op_of}
 use Rattle.steps.specs.Here.{many, last-is, live-few, held, downward, numbered-here, next-stmt, stands_at, covered}
 use Rattle.steps.specs.Finding.{first_by_links}

@@ -22,18 +22,18 @@ use Rattle.frames.specs.Numbered.{numbered-suc, numbered-append, last-numbered}
 use Rattle.frame_laws.specs.Innermost.{but_last-innermost}
 use Rattle.frame_laws.specs.Likeness.{designates-like}
 use Rattle.coordinates.specs.Chain.{enclosure_of, Downward}
-use Rattle.coordinates.specs.Kept.{chained-downward}
-use Rattle.coordinates.specs.Statement.{declared-alike}
-use Rattle.coordinates.specs.Designated.{Designated, Wire, formal-designates, declared-kind}
+use Rattle.coordinates.proofs.Kept.{chained-downward}
+use Rattle.coordinates.proofs.Statements.{declared-alike}
+use Rattle.coordinates.proofs.Designated.{Designated, Wire, formal-designates, declared-kind}
 use Rattle.coordinates.specs.Made.{passed}
-use Rattle.coordinates.specs.Making.{passed-next}
-use Rattle.coordinates.specs.Sound.{Sound}
-use Rattle.coordinates.specs.Visible.{action_names}
-use Rattle.coordinates.specs.Next.{Resolved, NextAction, next-action}
+use Rattle.coordinates.proofs.Making.{passed-next}
+use Rattle.coordinates.proofs.Sound.{Sound}
+use Rattle.coordinates.proofs.Visible.{action_names}
+use Rattle.coordinates.proofs.Next.{Resolved, NextAction, next-action}
 use Rattle.f_search.specs.Passers.{call_in, call_of, FormalAt, formal_of, passer}
 use Rattle.f_search.specs.Search.{onward}
-use Rattle.f_search.specs.Kept.{SameCalls, call_at, argument-none, argument-of, formal-frame, formal-alike, passer-alike, calls-append, calls-advanced, calls-both, calls-downward, entered-block, entered-declared, entered-by-formal, handed-declared, handed-formal}
-use Rattle.f_search.specs.Entered.{Stood, argument}
+use Rattle.f_search.proofs.Kept.{SameCalls, call_at, argument-none, argument-of, formal-frame, formal-alike, passer-alike, calls-append, calls-advanced, calls-both, calls-downward, entered-block, entered-declared, entered-by-formal, handed-declared, handed-formal}
+use Rattle.f_search.proofs.Entered.{Stood, argument}
 use Rattle.resolved.specs.Resolved.{position_in, kind_in, direct, name_word, resolved_action, resolved_stmt}
 use Rattle.steps.specs.Means.{EntersAt}
 use Rattle.steps.specs.Here.{many, last-is, downward, covered, here-bounded}

@@ -11,7 +11,7 @@ use Rattle.language.specs.Encoding.{formals_fields, block_fields, decls_fields}
 use Rattle.grammar.specs.Rules.{FormedBlock, FormedDecls, FormedStmts, Keeps}
 use Rattle.coordinates.specs.Enclosure.{enclosed, Enclosure}
 use Rattle.resolved.specs.Resolved.{place_of}
-use Rattle.resolved.specs.NameWords.{Narrow, narrow-inner}
+use Rattle.resolved.proofs.NameWords.{Narrow, narrow-inner}
 use Rattle.check_extents.specs.Items.{Item, formal, body, declared, stated, item_fields, items_fields, in_block, children, block_head, head_fields}
 use Rattle.check_extents.proofs.Inside.{formal-items, decl-items, item-opens}
 use Rattle.resolve_fields.specs.Parts.{Part, placed, inside}

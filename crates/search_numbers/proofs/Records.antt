@@ -11,8 +11,8 @@ use Rattle.laws.specs.Fields.{field_at, FieldsStand, fields-third}
 use Rattle.grammar.specs.Rules.{FormedBlock}
 use Rattle.coordinates.specs.Enclosure.{enclosed, Enclosure}
 use Rattle.resolved.specs.Resolved.{level_in, name_word, resolved_action, header, resolved_formals, resolved_block, Covers}
-use Rattle.resolved.specs.Words.{level-in-head}
-use Rattle.resolved.specs.NameWords.{Narrow, narrow-inner}
+use Rattle.resolved.proofs.Words.{level-in-head}
+use Rattle.resolved.proofs.NameWords.{Narrow, narrow-inner}
 use Rattle.f_search.specs.Numbers.{number_of}
 use Rattle.check_extents.specs.Items.{formal, body, declared, stated, item_fields, in_block, block_head, head_fields}
 use Rattle.resolve_words.specs.Growth.{Grown}

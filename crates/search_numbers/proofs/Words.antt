@@ -9,12 +9,12 @@ use lib.ListN.{get_or}
 use Rattle.laws.specs.Tests.{by-lookup}
 use Rattle.frames.specs.Frame.{position_from}
 use Rattle.coordinates.specs.Enclosure.{Enclosure, Coordinate, names_of, coordinate_of}
-use Rattle.coordinates.specs.Search.{coordinate-here, coordinate-further}
-use Rattle.coordinates.specs.Declared.{coordinate-declares}
+use Rattle.coordinates.proofs.Search.{coordinate-here, coordinate-further}
+use Rattle.coordinates.proofs.Declared.{coordinate-declares}
 use Rattle.resolved.specs.Resolved.{level_in, position_in, name_word, Covers}
-use Rattle.resolved.specs.NameWords.{word_none, Narrow, name-is}
+use Rattle.resolved.proofs.NameWords.{word_none, Narrow, name-is}
 use Rattle.f_search.specs.Numbers.{first_number, number_of}
-use Rattle.f_search.specs.Numbered.{number-here, number-further}
+use Rattle.f_search.proofs.Numbered.{number-here, number-further}
 use Rattle.resolve_fields.specs.Taking.{Gives}
 use Rattle.search_numbers.specs.Around.{number_at, Around}
 

@@ -4,7 +4,7 @@ use Rattle.language.specs.Text.{Formal, block_at}
 use Rattle.grammar.specs.Rules.{FormedBlock, FormedDecl, FormedStmt}
 use Rattle.coordinates.specs.Enclosure.{Enclosure}
 use Rattle.resolved.specs.Resolved.{place_of, level_in, position_in}
-use Rattle.resolved.specs.NameWords.{Narrow}
+use Rattle.resolved.proofs.NameWords.{Narrow}
 use Rattle.check_extents.specs.Items.{Item, formal, body, declared, stated, item_fields}
 use Rattle.resolve_fields.specs.Parts.{Part}
 

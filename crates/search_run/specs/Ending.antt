@@ -19,7 +19,7 @@ use Rattle.laws.specs.Tests.{none≢some, some_inj}
 use Rattle.frames.specs.Frame.{Frame, Stack, Result, results, designates, halted, frame_step, frame_run, frame_start, new_frame}
 use Rattle.f_search.specs.Passers.{passer}
 use Rattle.f_search.specs.Search.{onward}
-use Rattle.f_search.specs.Kept.{call-program, through-none, passer_of-none, onward-none}
+use Rattle.f_search.proofs.Kept.{call-program, through-none, passer_of-none, onward-none}
 use Rattle.steps.specs.Standing.{Standing}
 use Rattle.steps.specs.Here.{live-few, downward}
 use Rattle.steps.specs.Reads.{at-within, begin-reads}

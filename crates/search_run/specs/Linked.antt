@@ -14,19 +14,19 @@ use Rattle.grammar.specs.Rules.{Keeps}
 use Rattle.frames.specs.Frame.{Frame, Result, numbered}
 use Rattle.frames.specs.Numbered.{numbered-suc, numbered-zero}
 use Rattle.coordinates.specs.Chain.{enclosing, enclosure_of, level_of, Downward, Chained}
-use Rattle.coordinates.specs.Search.{enclosure-none}
-use Rattle.coordinates.specs.Coordinates.{level-of-text}
-use Rattle.coordinates.specs.Kept.{chained-downward}
-use Rattle.coordinates.specs.Levels.{frame-encloses, level-bound}
-use Rattle.coordinates.specs.Designated.{Wired}
+use Rattle.coordinates.proofs.Search.{enclosure-none}
+use Rattle.coordinates.proofs.Coordinates.{level-of-text}
+use Rattle.coordinates.proofs.Kept.{chained-downward}
+use Rattle.coordinates.proofs.Levels.{frame-encloses, level-bound}
+use Rattle.coordinates.proofs.Designated.{Wired}
 use Rattle.coordinates.specs.Made.{Made}
 use Rattle.f_search.specs.Search.{onward, shallower, encloser_sought}
-use Rattle.f_search.specs.Theorem.{onward-below, onward-low}
-use Rattle.f_search.specs.Enclosers as frames
+use Rattle.f_search.proofs.Theorem.{onward-below, onward-low}
+use Rattle.f_search.proofs.Enclosers as frames
 use Rattle.resolved.specs.Resolved.{end_place, resolved_of, Covers}
-use Rattle.resolved.specs.Places.{block-fields, end-bound}
+use Rattle.resolved.proofs.Places.{block-fields, end-bound}
 use Rattle.arrays.specs.Holds.{Holds}
-use Rattle.arrays.specs.Reading.{level-read}
+use Rattle.arrays.proofs.Reading.{level-read}
 use Rattle.search_links.specs.Enclosing.{level_at, shallower_from, link_at, AllAskable, LinksFound, shallower-last, shallower-here, shallower-on}
 use Rattle.search_moves.specs.Running.{Froms}
 use Rattle.run_state.specs.declared.Halt.{Halt}

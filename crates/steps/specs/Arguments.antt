@@ -24,17 +24,17 @@ use Rattle.frames.specs.Numbered.{numbered-at, numbered-high}
 use Rattle.frame_laws.specs.Finding.{decl_of-found, kind_of-found, finally-declared}
 use Rattle.coordinates.specs.Enclosure.{Enclosing, Encloses}
 use Rattle.coordinates.specs.Chain.{enclosing, enclosure_of, level_of, climb, Chained}
-use Rattle.coordinates.specs.Coordinates.{instance_at, declaring-frame, designates-by-links}
-use Rattle.coordinates.specs.Kept.{chained-downward}
-use Rattle.coordinates.specs.Levels.{names-bound}
-use Rattle.coordinates.specs.Visible.{meanings_of, scope_of, visible-coordinate}
-use Rattle.coordinates.specs.Designated.{Designated, Wired, number-of, place-of}
-use Rattle.coordinates.specs.Next.{Resolved}
+use Rattle.coordinates.proofs.Coordinates.{instance_at, declaring-frame, designates-by-links}
+use Rattle.coordinates.proofs.Kept.{chained-downward}
+use Rattle.coordinates.proofs.Levels.{names-bound}
+use Rattle.coordinates.proofs.Visible.{meanings_of, scope_of, visible-coordinate}
+use Rattle.coordinates.proofs.Designated.{Designated, Wired, number-of, place-of}
+use Rattle.coordinates.proofs.Next.{Resolved}
 use Rattle.resolved.specs.Resolved.{kind_in, direct, name_word, resolved_formals, Covers}
-use Rattle.resolved.specs.NameWords.{narrow-of-text, name-is}
+use Rattle.resolved.proofs.NameWords.{narrow-of-text, name-is}
 use Rattle.arrays.specs.Holds.{Holds}
-use Rattle.arrays.specs.Names.{named-by-links}
-use Rattle.arrays.specs.Found.{direct_is}
+use Rattle.arrays.proofs.Names.{named-by-links}
+use Rattle.arrays.proofs.Found.{direct_is}
 use Rattle.run_moves.specs.Effects.{same_kinds}
 use Rattle.run_moves.specs.Acting.{Finding, Scene, set_all, arguments_from}
 

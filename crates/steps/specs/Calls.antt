@@ -27,21 +27,21 @@ use Rattle.frame_laws.specs.Actions.{calls, calls-full, calls-differing}
 use Rattle.frame_laws.specs.Continuing.{decl_of-advanced, kind_of-advanced, step-acts}
 use Rattle.coordinates.specs.Enclosure.{enclosed, Enclosure, as-body, Encloses}
 use Rattle.coordinates.specs.Chain.{enclosing, enclosure_of}
-use Rattle.coordinates.specs.Search.{enclosure-step}
-use Rattle.coordinates.specs.Levels.{enclosure-of-text, frame-encloses}
-use Rattle.coordinates.specs.Moves.{declared-in}
-use Rattle.coordinates.specs.Designated.{Designated}
-use Rattle.coordinates.specs.Called.{declared-agrees}
-use Rattle.coordinates.specs.Visible.{action_names}
-use Rattle.coordinates.specs.Next.{Resolved, NextAction, next-action}
+use Rattle.coordinates.proofs.Search.{enclosure-step}
+use Rattle.coordinates.proofs.Levels.{enclosure-of-text, frame-encloses}
+use Rattle.coordinates.proofs.Moves.{declared-in}
+use Rattle.coordinates.proofs.Designated.{Designated}
+use Rattle.coordinates.proofs.Called.{declared-agrees}
+use Rattle.coordinates.proofs.Visible.{action_names}
+use Rattle.coordinates.proofs.Next.{Resolved, NextAction, next-action}
 use Rattle.resolved.specs.Resolved.{place_of, end_place, stmt_place, decl_target, direct, name_word, resolved_formals, resolved_action, resolved_stmt, Covers}
-use Rattle.resolved.specs.Lengths.{covers_at}
-use Rattle.resolved.specs.Words.{head-formals}
-use Rattle.resolved.specs.Standing.{head-stands, formals-covered, formals-before}
-use Rattle.resolved.specs.Places.{block-fields, end-bound}
+use Rattle.resolved.proofs.Lengths.{covers_at}
+use Rattle.resolved.proofs.Words.{head-formals}
+use Rattle.resolved.proofs.Standing.{head-stands, formals-covered, formals-before}
+use Rattle.resolved.proofs.Places.{block-fields, end-bound}
 use Rattle.resolved.specs.Layout.{formals_in}
 use Rattle.arrays.specs.Holds.{formal_word}
-use Rattle.arrays.specs.Cells as celled
+use Rattle.arrays.proofs.Cells as celled
 use Rattle.run_moves.specs.declared.Move.TheVariants.{Enter, Stop}
 use Rattle.run_moves.specs.Effects.{same_kinds}
 use Rattle.run_moves.specs.Acting.{Finding, Scene, field, moves, rewrites, set_all, no_room, arguments_from, do_call, arguments_agree, do_call_formal}

@@ -16,14 +16,14 @@ use Rattle.frame_laws.specs.BoundedFrames.{bounded-first}
 use Rattle.frame_laws.specs.Innermost.{but_last-innermost}
 use Rattle.coordinates.specs.Enclosure.{enclosed}
 use Rattle.coordinates.specs.Chain.{enclosure_of, level_of}
-use Rattle.coordinates.specs.Coordinates.{level-of-text}
-use Rattle.coordinates.specs.Sound.{Sound}
+use Rattle.coordinates.proofs.Coordinates.{level-of-text}
+use Rattle.coordinates.proofs.Sound.{Sound}
 use Rattle.resolved.specs.Resolved.{end_place, stmt_place, head_word, bounds_word, level_in}
-use Rattle.resolved.specs.Standing.{head-stands, bounds-stands}
-use Rattle.resolved.specs.Words.{head-level, head-formals, head-names, bounds-end, bounds-first}
+use Rattle.resolved.proofs.Standing.{head-stands, bounds-stands}
+use Rattle.resolved.proofs.Words.{head-level, head-formals, head-names, bounds-end, bounds-first}
 use Rattle.resolved.specs.Layout.{formals_in, names_in, end_in, first_in}
 use Rattle.arrays.specs.Holds.{Holds, Shows}
-use Rattle.arrays.specs.Running.{holds_pushed}
+use Rattle.arrays.proofs.Running.{holds_pushed}
 use Rattle.arrays.specs.Displays.{ShowsFrom, shows-pushed}
 use Rattle.run_moves.specs.Effects.{Cleared}
 use Rattle.steps.specs.Standing.{Standing}

@@ -17,9 +17,9 @@ use Rattle.frame_laws.specs.Actions.{enters, enters-full}
 use Rattle.frame_laws.specs.Innermost.{step-does}
 use Rattle.coordinates.specs.Enclosure.{enclosed, Enclosure, Encloses}
 use Rattle.coordinates.specs.Chain.{enclosure_of}
-use Rattle.coordinates.specs.Next.{next-block}
+use Rattle.coordinates.proofs.Next.{next-block}
 use Rattle.resolved.specs.Resolved.{end_place, stmt_place, bounds_word, header, resolved_stmt, Covers}
-use Rattle.resolved.specs.Words.{bounds-end}
+use Rattle.resolved.proofs.Words.{bounds-end}
 use Rattle.resolved.specs.Layout.{end_in}
 use Rattle.run_moves.specs.declared.Move.TheVariants.{Enter, Stop}
 use Rattle.run_moves.specs.Acting.{Finding, Scene, field, moves, no_room, do_block}

@@ -13,10 +13,10 @@ use Rattle.laws.specs.Lists.{get_elem-in}
 use Rattle.laws.specs.Each.{each_at}
 use Rattle.frames.specs.Frame.{frame_stmt}
 use Rattle.coordinates.specs.Chain.{enclosure_of}
-use Rattle.coordinates.specs.Visible.{action_names}
-use Rattle.coordinates.specs.Next.{Resolved, NextAction, next-action}
+use Rattle.coordinates.proofs.Visible.{action_names}
+use Rattle.coordinates.proofs.Next.{Resolved, NextAction, next-action}
 use Rattle.resolved.specs.Resolved.{direct, name_word, resolved_action, resolved_stmt}
-use Rattle.resolved.specs.Places.{block-fields}
+use Rattle.resolved.proofs.Places.{block-fields}
 use Rattle.resolved.specs.Layout.{formals_in}
 use Rattle.run_moves.specs.Acting.{Finding, Op, constant-op, add-op, subtract-op, compare-op, branch-op, goto-op, block-op, call-op, pair-op, unpair-op, query-op, constant-formal-op, arithmetic-formal-op, branch-formal-op, goto-formal-op, call-formal-op, op_of}
 use Rattle.steps.specs.Standing.{Standing, Finds}

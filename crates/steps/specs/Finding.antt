@@ -9,12 +9,13 @@ use Rattle.language.specs.Machine.{Limits}
 use Rattle.frames.specs.Frame.{designates}
 use Rattle.coordinates.specs.Enclosure.{Coordinate, coordinate_of}
 use Rattle.coordinates.specs.Chain.{enclosure_of, level_of}
-use Rattle.coordinates.specs.Next.{Resolved}
+use Rattle.coordinates.proofs.Next.{Resolved}
 use Rattle.resolved.specs.Resolved.{position_in, level_in, direct, name_word}
 use Rattle.arrays.specs.Holds.{designator_of, Shows}
-use Rattle.arrays.specs.Cells.{Celled, cell-bound, designator-of-cell}
-use Rattle.arrays.specs.Names.{NameAt, follow, unseen, seen, named-by-display, named-by-links}
+use Rattle.arrays.proofs.Cells.{Celled, cell-bound, designator-of-cell}
+use Rattle.arrays.proofs.Names.{NameAt, follow, unseen, seen, named-by-display, named-by-links}
 use Rattle.arrays.specs.Found as found
+use Rattle.arrays.proofs.Found as arrays_found
 use Rattle.run_moves.specs.Acting.{Finding}
 use Rattle.steps.specs.Standing.{Standing, Finds}
 use Rattle.steps.specs.Here.{many}
@@ -49,7 +50,7 @@ module _ {code : List ℕ} {l : Limits} {cells : List ℤ} {blocks nexts links :
   -- a name that is seen
   module _ (n : ℕ) (c : Coordinate) (e : coordinate_of (enclosure_of w.stack.frames (length w.stack.frames)) n ≡ some c) where
     celled : Celled (designates w.stack.frames n)
-    celled = found.named-celled l w.program w.keeps w.stack w.sound blocks (set nexts live at) links cells w.holds n c e
+    celled = arrays_found.named-celled l w.program w.keeps w.stack w.sound blocks (set nexts live at) links cells w.holds n c e
 
     at-display : (display : List ℕ) → Shows w.stack.frames display → NameAt w.stack.frames cells n (word_of n) (get_or display (level_in (word_of n)) 0)
     at-display display shows = named-by-display w.program w.keeps w.stack.frames w.sound.chained n c e w.sound.wired blocks (set nexts live at) links cells w.holds display shows
@@ -59,13 +60,13 @@ module _ {code : List ℕ} {l : Limits} {cells : List ℤ} {blocks nexts links :
 
     module _ (first : ℕ) (a : NameAt w.stack.frames cells n (word_of n) first) where
       as-found : found.Finds w.stack.frames cells n (word_of n) first
-      as-found = found.finds w.stack.frames cells n (word_of n) first a celled
+      as-found = arrays_found.finds w.stack.frames cells n (word_of n) first a celled
 
       reaches : Reaches cells live first (word_of n)
       reaches =
           record {
-            own = omega (arith, found.own-cell-bound w.stack.frames cells n (word_of n) first a celled, many w);
-            whole = λ d. not_negative _ _ (a.formal-word (found.formal-is (word_of n) d));
+            own = omega (arith, arrays_found.own-cell-bound w.stack.frames cells n (word_of n) first a celled, many w);
+            whole = λ d. not_negative _ _ (a.formal-word (arrays_found.formal-is (word_of n) d));
             cell = omega (arith, as-found.cell, cell-bound (designates w.stack.frames n) celled);
           }
 

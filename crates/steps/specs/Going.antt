@@ -24,14 +24,14 @@ use Rattle.frame_laws.specs.Likeness.{Like, LikeFrames, numbered-none, numbered-
 use Rattle.frame_laws.specs.Continuing.{like-continued, word_at-advanced}
 use Rattle.frame_laws.specs.Storing.{like-put}
 use Rattle.coordinates.specs.Chain.{enclosing, enclosure_of, display_from, display_of, outline, SameOutlines}
-use Rattle.coordinates.specs.Display.{display-alike}
-use Rattle.coordinates.specs.Designated.{Designated}
-use Rattle.coordinates.specs.Next.{Resolved}
+use Rattle.coordinates.proofs.Display.{display-alike}
+use Rattle.coordinates.proofs.Designated.{Designated}
+use Rattle.coordinates.proofs.Next.{Resolved}
 use Rattle.resolved.specs.Resolved.{end_place, stmt_place, name_word}
 use Rattle.arrays.specs.Holds.{cell_of, target_of, Holds}
-use Rattle.arrays.specs.Cells.{points-celled, name-points, cell-bound}
-use Rattle.arrays.specs.Storing.{word_held, holds-stored}
-use Rattle.arrays.specs.Running.{holds_on}
+use Rattle.arrays.proofs.Cells.{points-celled, name-points, cell-bound}
+use Rattle.arrays.proofs.Storing.{word_held, holds-stored}
+use Rattle.arrays.proofs.Running.{holds_on}
 use Rattle.run_moves.specs.Acting.{Finding, Scene}
 use Rattle.steps.specs.Standing.{Standing, Finds}
 use Rattle.steps.specs.Means.{GoesOn}

@@ -19,11 +19,11 @@ use Rattle.frame_laws.specs.Bounds.{FrameBounded}
 use Rattle.frame_laws.specs.Innermost.{last-innermost}
 use Rattle.coordinates.specs.Enclosure.{Encloses}
 use Rattle.coordinates.specs.Chain.{enclosing, enclosure_of, Downward}
-use Rattle.coordinates.specs.Kept.{chained-downward}
-use Rattle.coordinates.specs.Levels.{frame-encloses, in-innermost}
+use Rattle.coordinates.proofs.Kept.{chained-downward}
+use Rattle.coordinates.proofs.Levels.{frame-encloses, in-innermost}
 use Rattle.resolved.specs.Resolved.{place_of, end_place, stmt_place, resolved_stmt, Covers}
-use Rattle.resolved.specs.Places.{stmt-place, enclosed-end-iff, enclosed-next, even-stmt}
-use Rattle.resolved.specs.Standing.{stmt-covered}
+use Rattle.resolved.proofs.Places.{stmt-place, enclosed-end-iff, enclosed-next, even-stmt}
+use Rattle.resolved.proofs.Standing.{stmt-covered}
 use Rattle.arrays.specs.Holds.{HoldsFrame}
 use Rattle.steps.specs.Standing.{Standing}
 

@@ -19,12 +19,12 @@ use Rattle.frames.specs.Frame.{Frame, acted, numbered, designates, frame_number,
 use Rattle.frames.specs.Numbered.{numbered-low, numbered-high, numbered-append, numbered-seam}
 use Rattle.frame_laws.specs.Actions.{goes, passes, jumps}
 use Rattle.frame_laws.specs.Continuing.{decl_of-advanced, step-acts}
-use Rattle.coordinates.specs.Designated.{Designated}
-use Rattle.coordinates.specs.Visible.{action_names}
-use Rattle.coordinates.specs.Next.{next-action}
+use Rattle.coordinates.proofs.Designated.{Designated}
+use Rattle.coordinates.proofs.Visible.{action_names}
+use Rattle.coordinates.proofs.Next.{next-action}
 use Rattle.resolved.specs.Resolved.{stmt_place, decl_target, resolved_action, resolved_stmt}
 use Rattle.arrays.specs.Holds.{target_of}
-use Rattle.arrays.specs.Cells as celled
+use Rattle.arrays.proofs.Cells as celled
 use Rattle.run_moves.specs.declared.Move.TheVariants.{On, Jump}
 use Rattle.run_moves.specs.Acting.{Finding, Scene, value_of, field, moves, do_goto, do_branch}
 use Rattle.steps.specs.Standing.{Standing, Finds}

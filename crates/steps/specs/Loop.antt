@@ -25,13 +25,13 @@ use Rattle.frames.specs.Numbered.{numbered-suc, numbered-low, numbered-high}
 use Rattle.frames.specs.Running.{run-finished, run-spent, run-steps, run-stops}
 use Rattle.frame_laws.specs.Innermost.{step-leaves, offset-does}
 use Rattle.coordinates.specs.Chain.{along, chain_of, level_of, display_from, display_of, Downward}
-use Rattle.coordinates.specs.Display.{display-after-return, display-after-goto, display-length}
-use Rattle.coordinates.specs.Sound.{Sound, start-sound, step-sound}
+use Rattle.coordinates.proofs.Display.{display-after-return, display-after-goto, display-length}
+use Rattle.coordinates.proofs.Sound.{Sound, start-sound, step-sound}
 use Rattle.resolved.specs.Resolved.{end_place, stmt_place}
-use Rattle.resolved.specs.Places.{block-place}
+use Rattle.resolved.proofs.Places.{block-place}
 use Rattle.arrays.specs.Holds.{Holds, Shows}
-use Rattle.arrays.specs.Moves.{holds-started}
-use Rattle.arrays.specs.Running.{holds-back, holds-jumped}
+use Rattle.arrays.proofs.Moves.{holds-started}
+use Rattle.arrays.proofs.Running.{holds-back, holds-jumped}
 use Rattle.arrays.specs.Displays.{ShowsFrom, shows-entered}
 use Rattle.steps.specs.Standing.{Standing}
 use Rattle.steps.specs.Means.{Follows, JumpsTo}

@@ -9,7 +9,7 @@ use Rattle.language.specs.Machine.{Limits}
 use Rattle.frames.specs.Frame.{Frame, Stack, acted, halted, numbered, continue, with_frames, new_frame, frame_cost, stepped, frame_step, frame_run}
 use Rattle.coordinates.specs.Enclosure.{enclosed, Encloses}
 use Rattle.coordinates.specs.Chain.{enclosure_of, display_of}
-use Rattle.coordinates.specs.Designated.{Designated}
+use Rattle.coordinates.proofs.Designated.{Designated}
 use Rattle.resolved.specs.Resolved.{place_of, stmt_place}
 use Rattle.arrays.specs.Holds.{formal_word}
 use Rattle.run_moves.specs.declared.Move.{Move}

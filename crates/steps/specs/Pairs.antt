@@ -12,8 +12,8 @@ use Rattle.language.specs.Machine.{Limits}
 use Rattle.frames.specs.Frame.{designates, map_action, with_frames, put, as_acted, as_put, add_to, remove_from, ask, act, frame_stmt, frame_step}
 use Rattle.frame_laws.specs.Bounds.{Points}
 use Rattle.frame_laws.specs.Continuing.{step-acts}
-use Rattle.coordinates.specs.Visible.{action_names}
-use Rattle.coordinates.specs.Next.{next-action}
+use Rattle.coordinates.proofs.Visible.{action_names}
+use Rattle.coordinates.proofs.Next.{next-action}
 use Rattle.resolved.specs.Resolved.{resolved_action, resolved_stmt}
 use Rattle.arrays.specs.Holds.{cell_of}
 use Rattle.run_moves.specs.declared.Ask.TheVariants.{Add, Remove}

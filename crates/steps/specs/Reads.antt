@@ -11,15 +11,15 @@ use Rattle.language.specs.Machine.{Limits}
 use Rattle.frames.specs.Frame.{Frame, frame_stmt}
 use Rattle.frames.specs.Numbered.{numbered-suc}
 use Rattle.coordinates.specs.Enclosure.{whole}
-use Rattle.coordinates.specs.Levels.{frame-encloses, level-bound}
+use Rattle.coordinates.proofs.Levels.{frame-encloses, level-bound}
 use Rattle.coordinates.specs.Chain.{enclosing, enclosure_of, level_of}
 use Rattle.resolved.specs.Resolved.{place_of, end_place, stmt_place, name_word, bounds_word, level_in}
-use Rattle.resolved.specs.Standing.{bounds-stands}
-use Rattle.resolved.specs.Words.{bounds-end, bounds-first}
-use Rattle.resolved.specs.Places.{block-fields, block-place, end-bound, place-bound}
+use Rattle.resolved.proofs.Standing.{bounds-stands}
+use Rattle.resolved.proofs.Words.{bounds-end, bounds-first}
+use Rattle.resolved.proofs.Places.{block-fields, block-place, end-bound, place-bound}
 use Rattle.resolved.specs.Layout.{end_in, first_in}
 use Rattle.arrays.specs.Displays.{LinksOf, holds-links}
-use Rattle.arrays.specs.Reading.{level-read, end_read, looked-up-read}
+use Rattle.arrays.proofs.Reading.{level-read, end_read, looked-up-read}
 use Rattle.steps.specs.Standing.{Standing}
 use Rattle.steps.specs.Here.{many, here, at-is, here-bounded, encloses-here, goes-on-at}
 use Rattle.steps.specs.Begun.{Begun}

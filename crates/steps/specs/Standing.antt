@@ -6,8 +6,8 @@ use Rattle.language.specs.Machine.{Limits}
 use Rattle.grammar.specs.Rules.{Keeps}
 use Rattle.frames.specs.Frame.{Frame, Stack, designates, frame_number}
 use Rattle.coordinates.specs.Chain.{enclosure_of}
-use Rattle.coordinates.specs.Sound.{Sound}
-use Rattle.coordinates.specs.Next.{Resolved}
+use Rattle.coordinates.proofs.Sound.{Sound}
+use Rattle.coordinates.proofs.Next.{Resolved}
 use Rattle.resolved.specs.Resolved.{end_place, name_word, resolved_of, Covers}
 use Rattle.arrays.specs.Holds.{cell_of, target_of, formal_word, Holds}
 use Rattle.run_moves.specs.Acting.{Finding}

@@ -18,9 +18,9 @@ use Rattle.language.specs.declared.End.{End}
 use Rattle.language.specs.declared.End.TheVariants.{Finished, Spent, Stopped}
 use Rattle.laws.specs.Tests.{none≢some}
 use Rattle.frames.specs.Frame.{Frame, Result, results, halted, designates, frame_step, frame_run}
-use Rattle.coordinates.specs.Sound.{Sound, run_sound}
+use Rattle.coordinates.proofs.Sound.{Sound, run_sound}
 use Rattle.arrays.specs.Holds.{Holds}
-use Rattle.arrays.specs.Names.{nothing-live}
+use Rattle.arrays.proofs.Names.{nothing-live}
 use Rattle.steps.specs.Standing.{Standing}
 use Rattle.steps.specs.Means.{Follows}
 use Rattle.steps.specs.Counts.{costs-one}

@@ -17,8 +17,8 @@ use Rattle.grammar.specs.Words.{signed-unsigned}
 use Rattle.frames.specs.Frame.{designates, map_action, with_frames, frame_stmt}
 use Rattle.frame_laws.specs.Actions.{stores, computes, computes-past}
 use Rattle.frame_laws.specs.Continuing.{step-acts}
-use Rattle.coordinates.specs.Visible.{action_names}
-use Rattle.coordinates.specs.Next.{next-action}
+use Rattle.coordinates.proofs.Visible.{action_names}
+use Rattle.coordinates.proofs.Next.{next-action}
 use Rattle.resolved.specs.Resolved.{resolved_action, resolved_stmt}
 use Rattle.run_moves.specs.declared.Effect.TheVariants.{Done, Stopped}
 use Rattle.run_moves.specs.declared.Move.TheVariants.{On, Stop}

@@ -5,7 +5,7 @@ use native.Mathlib.Omega.{arith}
 use mathlib.Core.List.{List}
 use lib.IntN.{ℤ}
 use lib.ListN.{length, get_or, set}
-use Rattle.arrays.specs.Names.{follow as follows}
+use Rattle.arrays.proofs.Names.{follow as follows}
 use Rattle.chain_records.specs.declared.Activation.{Activation}
 use Rattle.run_state.specs.declared.Registers.{Registers}
 use Rattle.chain_links.specs.declared.Found.{Found}

@@ -1,0 +1,17 @@
+pub mod Blaming
+pub mod Growing
+pub mod Records
+pub mod Blamed
+pub mod Seeing
+pub mod Misusing
+pub mod Judging
+pub mod Leading
+pub mod Breaking
+pub mod Exact
+pub mod Calls
+pub mod FormalStops
+pub mod FormalSettled
+pub mod Blocks
+pub mod Examples
+pub mod FormalSites
+pub mod FormalCalls

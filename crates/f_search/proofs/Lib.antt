@@ -1,0 +1,11 @@
+pub mod Examples
+pub mod Kept
+pub mod Stepped
+pub mod Distinct
+pub mod Numbered
+pub mod OnChain
+pub mod Entered
+pub mod FirstPassed
+pub mod Theorem
+pub mod Enclosers
+pub mod Stated

@@ -1,0 +1,11 @@
+pub mod Examples
+pub mod Theorem
+pub mod Cuts
+pub mod Find
+pub mod Designated
+pub mod Store
+pub mod Push
+pub mod Actions
+pub mod Transfers
+pub mod Steps
+pub mod Runs

@@ -1,0 +1,9 @@
+pub mod Closed
+pub mod Accepted
+pub mod Renaming
+pub mod Invariant
+pub mod Found
+pub mod Entering
+pub mod Steps
+pub mod Once
+pub mod Theorems
