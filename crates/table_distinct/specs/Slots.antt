@@ -1,5 +1,5 @@
 -- Pairs in slots: a slot holds a pair as one word, never 0 where the numbers are at least 1.
-use Rattle.std.specs.Prelude.{ℕ, ◌+◌, ◌*◌, ◌/◌, ◌%◌, ◌≤◌, ◌<◌, ◌≡◌, Bool, true, ◌&&◌, List, ℤ, nat_abs, length, get_or, set, replicate}
+use Rattle.std.specs.Prelude.{ℕ, ◌+◌, ◌*◌, ◌/◌, ◌%◌, ◌<◌, ◌≡◌, Bool, true, ◌&&◌, List, ℤ, nat_abs, length, get_or, set, replicate}
 use Rattle.language.specs.Table.{at_least_one}
 use Rattle.laws.specs.Tables.{group_at, member_at}
 use Rattle.table_probes.specs.Room.{room}

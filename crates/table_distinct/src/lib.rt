@@ -1,4 +1,6 @@
 // Whether pairs differ from each other: each is put into a slot of its own, found by a hash, unless it stands in one.
+#![tactic(auto)]
+
 ghost use Rattle.std.specs.Prelude.{◌≡◌, true, false, ◌+◌, ◌*◌, ◌≤◌, ◌<◌, nat_abs, length};
 ghost use Rattle.language.specs.Table.{at_least_one, numbers_right};
 ghost use Rattle.laws.specs.Tables.{member_at};

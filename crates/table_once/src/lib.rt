@@ -1,4 +1,6 @@
 // Whether each pair of a table stands once. Which way is taken depends on how many pairs there are.
+#![tactic(auto)]
+
 ghost use Rattle.std.specs.Prelude.{◌≡◌, true, false, ℕ, ◌*◌, ◌≤◌, ◌<◌, length};
 ghost use Rattle.language.specs.Table.{numbers_right};
 ghost use Rattle.table_keys.specs.Keys.{rank_at, within};

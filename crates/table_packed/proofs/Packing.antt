@@ -1,12 +1,12 @@
 -- A slot's word and the pair whose place it has, and the slots as places are stored.
-use Prim.Native.Nat.{ℕ, ◌+◌, ◌-◌, ◌*◌, ◌/◌, ◌%◌, ◌≤◌, ◌<◌}
-use mathlib.Core.Path.{◌≡◌, refl, sym, ◌∙◌, ap, subst}
+use Prim.Native.Nat.{ℕ, ◌+◌, ◌-◌, ◌*◌, ◌/◌, ◌%◌, ◌<◌}
+use mathlib.Core.Path.{◌≡◌, sym, ◌∙◌, ap, subst}
 use mathlib.Core.List.{List}
 use native.Mathlib.Omega.{arith}
 use lib.IntN.{ℤ}
-use lib.ListN.{length, get_or, replicate}
+use lib.ListN.{replicate}
 use Rattle.laws.specs.Lists.{zeros}
-use Rattle.table_probes.specs.Probes.{Used, by-set}
+use Rattle.table_probes.specs.Probes.{by-set}
 use Rattle.table_distinct.specs.Slots.{word_at, hash_of}
 use Rattle.table_packed.specs.Packed.{tag_of, pair_in, Named, Placed, NewIn}
 

@@ -1,5 +1,7 @@
 // Whether pairs differ, in slots of 32 bits: a slot has the place of a pair and 16 bits of its hash. There are twice as many in the room of slots of 64 bits, so
 // that more searches end at the first: where one goes on, the processor has guessed wrong.
+#![tactic(auto)]
+
 ghost use Rattle.std.specs.Prelude.{◌≡◌, true, false, ℕ, ◌+◌, ◌*◌, ◌≤◌, ◌<◌, length};
 ghost use Rattle.language.specs.Table.{numbers_right};
 ghost use Rattle.table_probes.specs.Room.{room};

@@ -1,13 +1,13 @@
 -- What the bits and the marks say as pairs are inserted.
 use Prim.Native.Nat.{ℕ, ◌+◌, ◌≤◌, ◌<◌}
-use mathlib.Core.Path.{◌≡◌, refl, sym, ◌∙◌, ap, subst}
-use mathlib.Core.Bool.{Bool, true, false}
+use mathlib.Core.Path.{◌≡◌, sym, ◌∙◌, ap, subst}
+use mathlib.Core.Bool.{true}
 use mathlib.Core.List.{List}
-use mathlib.Core.Logic.{◌⊎◌, inl, inr, ⊎_elim}
+use mathlib.Core.Logic.{inl, inr, ⊎_elim}
 use native.Mathlib.Omega.{arith}
 use borrow.Author.Count.{below_more}
 use borrow.Author.Tests.{eqb-true}
-use lib.Bits.{bit_and, bit_or, or_add_and}
+use lib.Bits.{bit_and, or_add_and}
 use lib.IntN.{ℤ}
 use lib.ListN.{length, get_or, replicate, length-set, length-replicate}
 use Rattle.table_keys.specs.Keys.{same_at, rank_at}

@@ -1,5 +1,5 @@
 -- Bits that tell of a pair that it stands nowhere before: where one of its bits was clear, it does not.
-use Rattle.std.specs.Prelude.{ℕ, ◌+◌, ◌*◌, ◌/◌, ◌%◌, ◌^◌, ◌≤◌, ◌<◌, ◌≡◌, Bool, true, false, List, ◌⊎◌, ℤ, length, get_or, set}
+use Rattle.std.specs.Prelude.{ℕ, ◌*◌, ◌/◌, ◌%◌, ◌^◌, ◌≤◌, ◌<◌, ◌≡◌, Bool, true, false, List, ◌⊎◌, ℤ, length, get_or, set}
 use Rattle.std.specs.Int.Bits.{bit_or}
 use Rattle.table_keys.specs.Keys.{rank_at, within}
 use Rattle.table_filter.specs.Filter.{covers, join, Has}

@@ -1,5 +1,7 @@
 // Whether many pairs differ. Each pair sets two bits of a word that its hash chooses: where one of them was clear, the pair stands nowhere before.
 // The others are suspected, and each of them sets a bit among the marks: pairs whose bit is set there are stored in slots.
+#![tactic(auto)]
+
 ghost use Rattle.std.specs.Prelude.{◌≡◌, true, false, ℕ, ◌+◌, ◌*◌, ◌≤◌, ◌<◌, length, get_or};
 ghost use Rattle.language.specs.Table.{numbers_right};
 ghost use Rattle.table_keys.specs.Keys.{within};

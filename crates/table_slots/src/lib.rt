@@ -1,5 +1,7 @@
 // Counting suspected pairs by key in one go over the table, in slots found by a hash: 27,904 of them, and 256 more for the window of
 // the last. They have room for some twenty thousand keys, so the keys are parted into classes, and each class has a pass of its own.
+#![tactic(auto)]
+
 ghost use Rattle.std.specs.Prelude.{◌≡◌, true, false, ℕ, ◌+◌, ◌*◌, ◌≤◌, ◌<◌, length, get_or};
 ghost use Rattle.table_keys.specs.Keys.{rank_at, within};
 ghost use Rattle.table_hash.specs.Hashes.{hash_at};

@@ -1,15 +1,12 @@
 -- `differ_in` meets its contract. The loop's invariant: the pairs passed differ, and the slots hold them and no other.
 use borrow.Author.Rules.{rules}
-use Prim.Native.Nat.{ℕ, ◌+◌, ◌*◌, ◌/◌, ◌%◌, ◌≤◌, ◌<◌, ◌-◌}
+use Prim.Native.Nat.{ℕ, ◌≤◌, ◌<◌, ◌-◌}
 use mathlib.Core.Path.{◌≡◌, refl, sym, ◌∙◌, ap, subst}
 use mathlib.Core.Bool.{true}
-use mathlib.Core.List.{List}
 use native.Mathlib.Omega.{arith}
 use borrow.Author.Count.{below_more}
-use borrow.Author.Tests.{not-true, not-false, le-leb, lt-leb}
-use lib.IntN.{nat_abs}
+use borrow.Author.Tests.{le-leb, lt-leb}
 use lib.ListN.{length, length-replicate}
-use Rattle.laws.specs.Tables.{group_at, member_at}
 use Rattle.table_keys.specs.Keys.{rank_at, within}
 use Rattle.table_keys.proofs.Each.{each-true, each-false}
 use Rattle.table_keys.proofs.Keys.{rank_fits}
@@ -36,10 +33,10 @@ start_of c = (loop_of c).before.before
 abbrev home_at : tie.After-store invariant-loop decreases-loop → tie.After-home_of-home invariant-loop decreases-loop
 home_at c = c.before.before.before
 
-cleared : (s : tie.Start invariant-loop decreases-loop) → Cleared s.args.count s.args.slots-1.now
+cleared : (s : tie.Start invariant-loop decreases-loop) → Cleared s.args.count s.args.slots.now
 cleared s = let (words, (numbers, clear)) = s.requires in clear
 
-size : (s : tie.Start invariant-loop decreases-loop) → length s.args.slots-1.now ≡ (cleared s).size
+size : (s : tie.Start invariant-loop decreases-loop) → length s.args.slots.now ≡ (cleared s).size
 size s = ap length (cleared s).clear ∙ length-replicate {A = ℕ} (cleared s).size 0
 
 numbers : (s : tie.Start invariant-loop decreases-loop) (j : ℕ) → j < s.args.count → numbers_at s.args.table.now j ≡ true
@@ -68,8 +65,8 @@ word_at-requires c κs =
     let s = start_of c.before in
     (omega (arith, s.requires.0), numbers s l.loop-i.i (omega arith))
 
-homed : (c : tie.After-home_of-home invariant-loop decreases-loop) → c.home_of-home.result ≡ home_of (length (loop_of c).loop-i.slots-1) (word_at (start_of c).args.table.now (loop_of c).loop-i.i)
-homed c = c.home_of-home.ensures.0 ∙ ap (slot_of (length (loop_of c).loop-i.slots-1)) c.before.hash_at.ensures.0
+homed : (c : tie.After-home_of-home invariant-loop decreases-loop) → c.home_of-home.result ≡ home_of (length (loop_of c).loop-i.slots) (word_at (start_of c).args.table.now (loop_of c).loop-i.i)
+homed c = c.home_of-home.ensures.0 ∙ ap (slot_of (length (loop_of c).loop-i.slots)) c.before.hash_at.ensures.0
 
 store-requires : tie.Need-store-requires invariant-loop decreases-loop
 store-requires c κs =
@@ -79,10 +76,10 @@ store-requires c κs =
     (h.home_of-home.ensures.1, omega (arith, l.loop-i.invariant.2.left, l.loop-i.invariant.1, size s, (cleared s).more))
 
 stored : (c : tie.After-store invariant-loop decreases-loop) → c.store.result ≡ true → let h = home_at c in let w = word_at (start_of h).args.table.now (loop_of h).loop-i.i in
-    Stored whole w (home_of (length (loop_of h).loop-i.slots-1) w) w (loop_of h).loop-i.slots-1 c.store.new.0
+    Stored whole w (home_of (length (loop_of h).loop-i.slots) w) w (loop_of h).loop-i.slots c.store.new.slots
 stored c e =
     let word = c.before.word_at.ensures.0 in
-    subst (λ (T : Type 0). T) (λ i. Stored whole (word i) (homed (home_at c) i) (word i) (loop_of (home_at c)).loop-i.slots-1 c.store.new.0) (c.store.ensures.0 e)
+    subst (λ (T : Type 0). T) (λ i. Stored whole (word i) (homed (home_at c) i) (word i) (loop_of (home_at c)).loop-i.slots c.store.new.slots) (c.store.ensures.0 e)
 
 returns : tie.Need-returns-then-not-store invariant-loop decreases-loop
 unfolding within
@@ -91,7 +88,7 @@ returns c =
     let l = loop_of (home_at t) in
     let s = start_of (home_at t) in
     let (word, member) = t.before.word_at.ensures in
-    let held = subst (Holds whole l.loop-i.slots-1) word (t.store.ensures.1 (not-true _ c.if-not-store.true)) in
+    let held = subst (Holds whole l.loop-i.slots) word (t.store.ensures.1 c.if-not-store.true) in
     let twice = held-twice l.loop-i.invariant.2 (λ j h. numbers s j (omega arith)) member held in
     sym (each-false (rank_fits true 1 s.args.table.now) s.args.count l.loop-i.i (omega arith) (lt-leb _ _ twice))
 
@@ -101,7 +98,7 @@ loop-again c =
     let l = loop_of (home_at t) in
     let s = start_of (home_at t) in
     let (word, member) = t.before.word_at.ensures in
-    let new = stored t (not-false _ c.if-not-store.false) in (
+    let new = stored t c.if-not-store.false in (
       omega arith,
       search rules,
       filled_more l.loop-i.invariant.2 new (not-empty s.args.table.now l.loop-i.i (numbers s l.loop-i.i (omega arith))) refl member,

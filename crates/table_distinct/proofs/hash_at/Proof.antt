@@ -7,7 +7,7 @@ use lib.IntN.{nat_abs}
 use Rattle.laws.specs.Tables.{group_at, member_at}
 use Rattle.language.specs.Table.{at_least_one}
 use Rattle.table_search.proofs.Signed.{back}
-use Rattle.table_distinct.specs.Slots.{word_at, hash_of}
+use Rattle.table_distinct.specs.Slots.{word_at}
 use Rattle.table_distinct.proofs.Words.{group-least, member-least, hash-parts}
 use Rattle.table_distinct.proofs.hash_at.Statement.{statement}
 use Rattle.table_distinct.proofs.hash_at.Tie as tie

@@ -1,13 +1,13 @@
 -- `store` meets its contract. The loop's invariant: the slots passed are in use by other keys.
 use borrow.Author.Rules.{rules}
-use Prim.Native.Nat.{ℕ, suc, ◌+◌, ◌-◌, ◌≤◌, ◌<◌}
+use Prim.Native.Nat.{ℕ, ◌+◌, ◌-◌, ◌<◌}
 use mathlib.Core.Path.{◌≡◌, refl, sym, ◌∙◌, subst}
 use native.Mathlib.Numerals.{add-one}
 use native.Mathlib.Omega.{arith}
 use lib.ListN.{length}
 use Rattle.laws.specs.Tests.{never}
 use Rattle.table_probes.specs.Ring.{next, next-on, next-round}
-use Rattle.table_probes.specs.Probes.{Used, Passed, steps, passed-home, passed-next, steps-less}
+use Rattle.table_probes.specs.Probes.{Passed, steps, passed-home, passed-next, steps-less}
 use Rattle.table_distinct.specs.Slots.{whole}
 use Rattle.table_distinct.proofs.store.Statement.{statement}
 use Rattle.table_distinct.proofs.store.Tie as tie

@@ -11,7 +11,7 @@ returns c =
     let k = c.before.before.before in
     let s = k.before.before in (
       λ e j l o. ⊎_elim (λ r. r)
-          (λ t. c.count_class.ensures.0 e j l (wanted-of true s.args.table.now s.args.classes s.args.class k.insert_all.new.1.1.1.1.1.0 j t o)) (k.insert_all.ensures j l o),
+          (λ t. c.count_class.ensures.0 e j l (wanted-of true s.args.table.now s.args.classes s.args.class k.insert_all.new.marks j t o)) (k.insert_all.ensures j l o),
       search rules,
     )
 

@@ -1,15 +1,14 @@
 -- `classes_differ` meets its contract. The loop's invariant: the pairs of the classes passed differ from all before them.
 use Prim.Native.Nat.{ℕ, ◌≤◌, ◌<◌, ◌-◌}
-use mathlib.Core.Path.{◌≡◌, sym}
+use mathlib.Core.Path.{sym}
 use mathlib.Core.Bool.{true}
 use native.Mathlib.Omega.{arith}
-use borrow.Author.Tests.{not-true, not-false, le-leb}
+use borrow.Author.Tests.{le-leb}
 use Rattle.table_keys.specs.Keys.{rank_at, within}
 use Rattle.table_keys.proofs.Keys.{rank_fits}
 use Rattle.table_keys.proofs.Each.{each-true, below_next}
 use Rattle.table_hash.specs.Hashes.{class_at}
 use Rattle.table_hash.proofs.Hashing.{class-below}
-use borrow.Author.Rules.{rules}
 use Rattle.table_once.proofs.classes_differ.Statement.{statement}
 use Rattle.table_once.proofs.classes_differ.Tie as tie
 
@@ -27,7 +26,7 @@ class_differs-requires : tie.Need-class_differs-requires invariant-loop decrease
 class_differs-requires c κs = let s = c.before.before in (s.requires.0, (s.requires.1, omega (arith, s.requires.1)))
 
 returns : tie.Need-returns-then-not-class_differs invariant-loop decreases-loop
-returns c = sym (c.before.class_differs.ensures.1 (not-true _ c.if-not-class_differs.true))
+returns c = sym (c.before.class_differs.ensures.1 c.if-not-class_differs.true)
 
 loop-again : tie.Need-loop-class-preserved invariant-loop decreases-loop
 loop-again c =
@@ -35,7 +34,7 @@ loop-again c =
     let l = k.before.before in (
       omega arith,
       omega arith,
-      λ j h b. below_next _ l.loop-class.class (l.loop-class.invariant.2 j h) (k.class_differs.ensures.0 (not-false _ c.if-not-class_differs.false) j h) b,
+      λ j h b. below_next _ l.loop-class.class (l.loop-class.invariant.2 j h) (k.class_differs.ensures.0 c.if-not-class_differs.false j h) b,
     )
 
 returns-2 : tie.Need-returns invariant-loop decreases-loop

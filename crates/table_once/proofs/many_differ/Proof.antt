@@ -14,19 +14,19 @@ first_says : (k : tie.After-tested-first) {v : Found} → k.tested-first.result 
 first_says k e = subst (Says k.before.args.count k.before.args.table.now) e k.tested-first.ensures.0
 
 abbrev start_of : tie.After-tested-last → tie.Start
-start_of k = k.before.before.before.before
+start_of k = k.before.before.before
 
 last_says : (k : tie.After-tested-last) {v : Found} → k.tested-last.result ≡ v → Says (start_of k).args.count (start_of k).args.table.now v
 last_says k e = subst (Says (start_of k).args.count (start_of k).args.table.now) e k.tested-last.ensures.0
 
 returns-5 : tie.Need-returns-in-Nothing-last
-returns-5 c = let k = c.before.before in something (within true 1 (start_of k).args.count (start_of k).args.table.now) (k.tested-last.ensures.1 refl) c.enum_told-in-Nothing-last-1.given.1
+returns-5 c = let k = c.before in something (within true 1 (start_of k).args.count (start_of k).args.table.now) (k.tested-last.ensures.1 refl) c.in-Nothing-last.is
 
 pub many_differ_spec : {M : Type 1} → statement M
 many_differ_spec =
     tie.close (tie.spec (λ c κs. search rules) (λ c. search rules) (λ c. search rules) (λ c. search rules) (λ c κs. search rules) (λ c. search rules)
     (λ c. search rules) (λ c. search rules)
-    (λ c. sym (first_says c.before.before c.enum_told-1.given.1))
-    (λ c. sym (first_says c.before.before c.enum_told-in-Twice-1.given.1))
-    (λ c. sym (last_says c.before.before c.enum_told-in-Differ-last-1.given.1))
-    (λ c. sym (last_says c.before.before c.enum_told-in-Twice-last-1.given.1)) returns-5)
+    (λ c. sym (first_says c.before c.in-Differ.is))
+    (λ c. sym (first_says c.before c.in-Twice.is))
+    (λ c. sym (last_says c.before c.in-Differ-last.is))
+    (λ c. sym (last_says c.before c.in-Twice-last.is)) returns-5)

@@ -1,5 +1,4 @@
 -- `tested` meets its contract.
-use mathlib.Core.Path.{◌≡◌}
 use Rattle.laws.specs.Tests.{never}
 use Rattle.table_once.proofs.Finding.{sure}
 use borrow.Author.Rules.{rules}

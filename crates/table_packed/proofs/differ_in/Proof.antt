@@ -5,7 +5,7 @@ use mathlib.Core.Path.{◌≡◌, refl, sym, ◌∙◌, ap, subst}
 use mathlib.Core.Bool.{true}
 use native.Mathlib.Omega.{arith}
 use borrow.Author.Count.{below_more}
-use borrow.Author.Tests.{not-true, not-false, le-leb, lt-leb}
+use borrow.Author.Tests.{le-leb, lt-leb}
 use lib.ListN.{length, length-replicate}
 use Rattle.table_keys.specs.Keys.{rank_at, within}
 use Rattle.table_keys.proofs.Each.{each-true, each-false}
@@ -25,10 +25,10 @@ invariant-loop table count slots₀ i₀ slots i =
 abbrev decreases-loop : tie.decreases-loop-i
 decreases-loop table count slots₀ i₀ slots i = count - i
 
-cleared : (s : tie.Start invariant-loop decreases-loop) → Cleared s.args.count s.args.slots-1.now
+cleared : (s : tie.Start invariant-loop decreases-loop) → Cleared s.args.count s.args.slots.now
 cleared s = let (words, (right, (clear, few))) = s.requires in clear
 
-size : (s : tie.Start invariant-loop decreases-loop) → length s.args.slots-1.now ≡ (cleared s).size
+size : (s : tie.Start invariant-loop decreases-loop) → length s.args.slots.now ≡ (cleared s).size
 size s = ap length (cleared s).clear ∙ length-replicate {A = ℕ} (cleared s).size 0
 
 numbers : (s : tie.Start invariant-loop decreases-loop) (j : ℕ) → j < s.args.count → numbers_at s.args.table.now j ≡ true
@@ -89,7 +89,7 @@ returns c =
     let t = c.before.before.before in
     let l = loop_of t in
     let s = start_of t in
-    let held = t.store.ensures.1 (not-true _ c.if-not-store.true) in
+    let held = t.store.ensures.1 c.if-not-store.true in
     let twice = held-twice l.loop-i.invariant.2 (λ j h. numbers s j (omega arith)) (hashed_at t).hash_at.ensures.1 held in
     sym (each-false (rank_fits true 1 s.args.table.now) s.args.count l.loop-i.i (omega arith) (lt-leb _ _ twice))
 
@@ -101,7 +101,7 @@ loop-again c =
     let (words, (right, (clear, few))) = s.requires in
     let low : l.loop-i.i < 65535 = omega arith in
     let tag = tag_of (hash_of (word_at s.args.table.now l.loop-i.i)) in
-    let new = t.store.ensures.0 (not-false _ c.if-not-store.false) in (
+    let new = t.store.ensures.0 c.if-not-store.false in (
       omega arith,
       search rules,
       filled_more l.loop-i.invariant.2 new (word_some l.loop-i.i low tag) (word-pair l.loop-i.i low tag s.args.table.now) (hashed_at t).hash_at.ensures.1,

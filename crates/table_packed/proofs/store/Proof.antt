@@ -1,19 +1,19 @@
 -- `store` meets its contract. The loop's invariant: the slots passed have the places of other pairs.
 use borrow.Author.Rules.{rules}
-use Prim.Native.Nat.{ℕ, ◌+◌, ◌*◌, ◌-◌, ◌≤◌, ◌<◌}
+use Prim.Native.Nat.{ℕ, ◌+◌, ◌*◌, ◌-◌, ◌<◌}
 use mathlib.Core.Path.{◌≡◌, refl, sym, ◌∙◌, ap, subst}
 use mathlib.Core.List.{List}
 use native.Mathlib.Numerals.{add-one}
 use native.Mathlib.Omega.{arith}
 use lib.IntN.{ℤ}
-use lib.ListN.{length, get_or, set}
+use lib.ListN.{length, set}
 use Rattle.laws.specs.Tests.{never}
 use Rattle.table_probes.specs.Ring.{next, next-on, next-round}
 use Rattle.table_probes.specs.Room.{room, some-empty}
 use Rattle.table_probes.specs.Probes.{Passed, steps, passed-home, passed-next, steps-less}
 use Rattle.table_distinct.specs.Slots.{word_at, hash_of, slot_of, home_of}
 use Rattle.table_distinct.proofs.Filling.{slot-below}
-use Rattle.table_packed.specs.Packed.{tag_of, pair_in, Placed}
+use Rattle.table_packed.specs.Packed.{tag_of, pair_in}
 use Rattle.table_packed.proofs.store.Statement.{statement}
 use Rattle.table_packed.proofs.store.Tie as tie
 

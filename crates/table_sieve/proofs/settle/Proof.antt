@@ -3,10 +3,11 @@ use borrow.Author.Rules.{rules}
 use Prim.Native.Nat.{ℕ, ◌+◌, ◌≤◌, ◌<◌, ◌-◌}
 use mathlib.Core.Path.{◌≡◌, refl, sym, ◌∙◌, ap, subst}
 use mathlib.Core.Bool.{true, false}
+use mathlib.Core.List.{List}
 use mathlib.Core.Logic.{⊎_elim}
 use native.Mathlib.Omega.{arith}
 use borrow.Author.Count.{below_more}
-use borrow.Author.Tests.{not-true, not-false, le-leb, lt-leb}
+use borrow.Author.Tests.{le-leb, lt-leb}
 use lib.ListN.{length, get_or, length-replicate, length-set}
 use Rattle.laws.specs.Tests.{never}
 use Rattle.table_keys.specs.Keys.{rank_at, within}
@@ -72,18 +73,16 @@ store-requires c κs =
     (omega (arith, c.home_of.ensures.1, l.loop-i.invariant.2), omega (arith, l.loop-i.invariant.3.left, l.loop-i.invariant.2))
 
 -- a marked pair is stored
-module _ (k : tie.After-store invariant-loop decreases-loop) where
-  homed : k.before.home_of.result ≡ home_of (length (loop_of (marked_of k)).loop-i.slots-1) (word_at (start_of (marked_of k)).args.table.now (loop_of (marked_of k)).loop-i.i)
+module _ (m : tie.After-is_marked invariant-loop decreases-loop) {word home : ℕ}
+    (e : word ≡ word_at (start_of m).args.table.now (loop_of m).loop-i.i) (h : home ≡ slot_of 32768 m.before.hash_at-hash.result) where
+  homed : home ≡ home_of (length (loop_of m).loop-i.slots) (word_at (start_of m).args.table.now (loop_of m).loop-i.i)
   homed =
-      let m = marked_of k in
-      k.before.home_of.ensures.0 ∙ ap (slot_of 32768) m.before.hash_at-hash.ensures.0 ∙
+      h ∙ ap (slot_of 32768) m.before.hash_at-hash.ensures.0 ∙
       ap (λ (size : ℕ). home_of size (word_at (start_of m).args.table.now (loop_of m).loop-i.i)) (sym (loop_of m).loop-i.invariant.2)
 
-  stored : k.store.result ≡ true → let m = marked_of k in let w = word_at (start_of m).args.table.now (loop_of m).loop-i.i in
-      Stored whole w (home_of (length (loop_of m).loop-i.slots-1) w) w (loop_of m).loop-i.slots-1 k.store.last.0
-  stored e =
-      let m = marked_of k in
-      subst (λ (T : Type 0). T) (λ i. Stored whole ((key_of k).word_at.ensures.0 i) (homed i) ((key_of k).word_at.ensures.0 i) (loop_of m).loop-i.slots-1 k.store.last.0) (k.store.ensures.0 e)
+  stored : {after : List ℕ} → Stored whole word home word (loop_of m).loop-i.slots after → let w = word_at (start_of m).args.table.now (loop_of m).loop-i.i in
+      Stored whole w (home_of (length (loop_of m).loop-i.slots) w) w (loop_of m).loop-i.slots after
+  stored {after} q = subst (λ (T : Type 0). T) (λ i. Stored whole (e i) (homed i) (e i) (loop_of m).loop-i.slots after) q
 
 returns-2 : tie.Need-returns-then-not-store invariant-loop decreases-loop
 unfolding within
@@ -93,7 +92,7 @@ returns-2 c =
     let l = loop_of m in
     let s = start_of m in
     let (word, member) = (key_of k).word_at.ensures in
-    let held = subst (Holds whole l.loop-i.slots-1) word (k.store.ensures.1 (not-true _ c.if-not-store.true)) in
+    let held = subst (Holds whole l.loop-i.slots) word (k.store.ensures.1 c.if-not-store.true) in
     let twice = held-twice l.loop-i.invariant.3 (λ j h. numbers s j (omega arith)) member held in
     each-false (rank_fits true 1 s.args.table.now) s.args.count l.loop-i.i (omega arith) (lt-leb _ _ twice)
 
@@ -112,25 +111,21 @@ loop-again c =
     let mine = marked ws s.args.marks.now in
     ⊎_elim
     (λ w.
-    let k : tie.After-store invariant-loop decreases-loop = record {
-      before = record { before = record { before = record { before = record { before = record { before = m; if1 = w.0 }; if2 = w.1 }; slots = w.2 }; word_at = w.3 }; home_of = w.4 };
-      store = w.5;
-    } in
-    let new = stored k (not-false _ w.7.left) in
-    let first = stored-first l.loop-i.invariant.3 new (marked-same ws s.args.marks.now) (sym (tested m) ∙ w.0.taken) in
-    let filled = filled_more l.loop-i.invariant.3 new (not-empty ws l.loop-i.i (numbers s l.loop-i.i (omega arith))) refl w.3.ensures.1 in (
+    let new = stored m w.word_at.ensures.0 w.home_of.ensures.0 (w.store.ensures.0 w.if-not-store.false) in
+    let first = stored-first l.loop-i.invariant.3 new (marked-same ws s.args.marks.now) (sym (tested m) ∙ w.if-is_marked.true) in
+    let filled = filled_more l.loop-i.invariant.3 new (not-empty ws l.loop-i.i (numbers s l.loop-i.i (omega arith))) refl w.word_at.ensures.1 in (
       omega arith,
-      omega (arith, w.9, w.1.left),
-      ap length (w.8 ∙ new.stored) ∙ length-set l.loop-i.slots-1 new.slot _ ∙ l.loop-i.invariant.2,
-      subst (λ (T : Type 0). T) (λ i. Filled whole ws mine (l.loop-i.i + 1) (sym w.9 i) (sym w.8 i)) filled,
+      omega (arith, w.kept-is, w.if-kept-eq28000.false),
+      ap length (w.slots-is ∙ new.stored) ∙ length-set l.loop-i.slots new.slot _ ∙ l.loop-i.invariant.2,
+      subst (λ (T : Type 0). T) (λ i. Filled whole ws mine (l.loop-i.i + 1) (sym w.kept-is i) (sym w.slots-is i)) filled,
       below_more _ _ l.loop-i.invariant.4 first,
     ))
     (λ w. (
       omega arith,
-      omega (arith, w.2),
-      ap length w.1 ∙ l.loop-i.invariant.2,
-      subst (λ (T : Type 0). T) (λ i. Filled whole ws mine (l.loop-i.i + 1) (sym w.2 i) (sym w.1 i)) (filled-skip l.loop-i.invariant.3 (sym (tested m) ∙ w.0.left)),
-      below_more _ _ l.loop-i.invariant.4 (not-marked m w.0.left),
+      omega (arith, w.kept-is),
+      ap length w.slots-is ∙ l.loop-i.invariant.2,
+      subst (λ (T : Type 0). T) (λ i. Filled whole ws mine (l.loop-i.i + 1) (sym w.kept-is i) (sym w.slots-is i)) (filled-skip l.loop-i.invariant.3 (sym (tested m) ∙ w.if-is_marked.false)),
+      below_more _ _ l.loop-i.invariant.4 (not-marked m w.if-is_marked.false),
     ))
     c.if-is_marked.branch-raw
 

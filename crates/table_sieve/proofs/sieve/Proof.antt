@@ -36,7 +36,7 @@ loop-holds : tie.Need-loop-i-init invariant-loop decreases-loop
 loop-holds c =
     let s = c.before in
     let (words, (right, mark-words)) = s.requires in
-    (omega arith, sieved-none s.args.table.now s.args.marks-1.now mark-words, λ e j l. absurd (omega arith))
+    (omega arith, sieved-none s.args.table.now s.args.marks.now mark-words, λ e j l. absurd (omega arith))
 
 hash_at-requires : tie.Need-hash_at-requires invariant-loop decreases-loop
 hash_at-requires c κs =
@@ -57,18 +57,18 @@ module _ (k : tie.After-insert invariant-loop decreases-loop) where
   abbrev Next : List ℕ → List ℕ → Type 0
   Next = Sieved (start_of k).args.table.now ((loop_of k).loop-i.i + 1)
 
-  seen-now : k.insert.last.1.0 ≡ set_in (loop_of k).loop-i.seen-1 (cell_of (hash_at (start_of k).args.table.now (loop_of k).loop-i.i)) (mask_of (hash_at (start_of k).args.table.now (loop_of k).loop-i.i))
-  seen-now = k.insert.ensures.0 ∙ ap (λ (h : ℕ). set_in (loop_of k).loop-i.seen-1 (cell_of h) (mask_of h)) (hashed k)
+  seen-now : k.insert.new.seen ≡ set_in (loop_of k).loop-i.seen (cell_of (hash_at (start_of k).args.table.now (loop_of k).loop-i.i)) (mask_of (hash_at (start_of k).args.table.now (loop_of k).loop-i.i))
+  seen-now = k.insert.ensures.0 ∙ ap (λ (h : ℕ). set_in (loop_of k).loop-i.seen (cell_of h) (mask_of h)) (hashed k)
 
-  marked : k.insert.result ≡ true → Next k.insert.last.1.0 k.insert.last.1.1.0
+  marked : k.insert.result ≡ true → Next k.insert.new.seen k.insert.new.marks
   marked e =
-      let marks-now = k.insert.ensures.1.0 e ∙ ap (λ (h : ℕ). set_in (loop_of k).loop-i.marks-1 (mark_of h) (bit_of h)) (hashed k) in
+      let marks-now = k.insert.ensures.1.0 e ∙ ap (λ (h : ℕ). set_in (loop_of k).loop-i.marks (mark_of h) (bit_of h)) (hashed k) in
       subst (λ (T : Type 0). T) (λ i. Next (sym seen-now i) (sym marks-now i)) (sieved-suspected (loop_of k).loop-i.invariant.1)
 
-  new : k.insert.result ≡ false → Next k.insert.last.1.0 k.insert.last.1.1.0 × (rank_at true (loop_of k).loop-i.i (start_of k).args.table.now ≤ 1)
+  new : k.insert.result ≡ false → Next k.insert.new.seen k.insert.new.marks × (rank_at true (loop_of k).loop-i.i (start_of k).args.table.now ≤ 1)
   new e =
       let done = (loop_of k).loop-i.invariant.1 in
-      let clear = subst (λ (h : ℕ). Has (loop_of k).loop-i.seen-1 (cell_of h) (mask_of h) → ⊥) (hashed k) (k.insert.ensures.1.1.1 e) in
+      let clear = subst (λ (h : ℕ). Has (loop_of k).loop-i.seen (cell_of h) (mask_of h) → ⊥) (hashed k) (k.insert.ensures.1.1.1 e) in
       let first = fresh done clear in
       (subst (λ (T : Type 0). T) (λ i. Next (sym seen-now i) (sym (k.insert.ensures.1.1.0 e) i)) (sieved-new done first), first)
 
@@ -77,8 +77,8 @@ loop-again c =
     let k = c.before.before.before.before in
     let l = loop_of k in (
       omega arith,
-      ⊎_elim (λ w. marked k w.0.taken) (λ w. (new k w.0.left).0) c.if-insert.branch-raw,
-      ⊎_elim (λ w e. never w.1 e) (λ w e. below_more _ _ (l.loop-i.invariant.2 (sym w.1 ∙ e)) (new k w.0.left).1) c.if-insert.branch-raw,
+      ⊎_elim (λ w. marked k w.if-insert.true) (λ w. (new k w.if-insert.false).0) c.if-insert.branch-raw,
+      ⊎_elim (λ w e. never w.suspected-is e) (λ w e. below_more _ _ (l.loop-i.invariant.2 (sym w.suspected-is ∙ e)) (new k w.if-insert.false).1) c.if-insert.branch-raw,
     )
 
 returns : tie.Need-returns invariant-loop decreases-loop

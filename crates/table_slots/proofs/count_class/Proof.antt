@@ -5,7 +5,7 @@ use mathlib.Core.Path.{◌≡◌, refl}
 use mathlib.Core.Bool.{true}
 use native.Mathlib.Omega.{arith}
 use borrow.Author.Count.{below_more}
-use borrow.Author.Tests.{not-true, not-false, lt-leb}
+use borrow.Author.Tests.{lt-leb}
 use Rattle.laws.specs.Tests.{never}
 use Rattle.table_keys.specs.Keys.{rank_at, within}
 use Rattle.table_slots.specs.Slots.{Good, wanted}
@@ -23,6 +23,9 @@ invariant-loop table count whole limit class classes marks slots₀ i₀ slots i
 abbrev decreases-loop : tie.decreases-loop-i
 decreases-loop table count whole limit class classes marks slots₀ i₀ slots i = count - i
 
+loop-holds : tie.Need-loop-i-init invariant-loop decreases-loop
+loop-holds c = (omega arith, good_start _ _ _, λ j l m. absurd (omega arith))
+
 count_wanted-requires : tie.Need-count_wanted-requires invariant-loop decreases-loop
 count_wanted-requires c κs =
     let l = c.before.before in
@@ -38,14 +41,14 @@ returns c =
     let s = l.before.before in
     let (counted, (few, many)) = k.count_wanted.ensures in (
       λ e. never e refl,
-      λ e. each-false (rank_fits s.args.whole s.args.limit s.args.table.now) s.args.count l.loop-i.i (omega arith) (lt-leb _ _ (many (not-true _ c.if-not-count_wanted.true))),
+      λ e. each-false (rank_fits s.args.whole s.args.limit s.args.table.now) s.args.count l.loop-i.i (omega arith) (lt-leb _ _ (many c.if-not-count_wanted.true)),
     )
 
 loop-again : tie.Need-loop-i-preserved invariant-loop decreases-loop
 loop-again c =
     let k = c.before.before in
     let l = k.before.before.before in
-    let done = not-false _ c.if-not-count_wanted.false in
+    let done = c.if-not-count_wanted.false in
     let (counted, (few, many)) = k.count_wanted.ensures in
     (omega arith, counted done, below_more _ _ l.loop-i.invariant.2 (few done))
 
@@ -54,5 +57,5 @@ returns-2 c = (λ e j l m. c.before.loop-i.invariant.2 j (omega arith) m, λ e. 
 
 pub count_class_spec : {M : Type 1} → statement M
 count_class_spec =
-    tie.close (tie.spec invariant-loop decreases-loop (λ c. search (rules, good_start)) (λ c. search rules) count_wanted-requires returns
+    tie.close (tie.spec invariant-loop decreases-loop loop-holds (λ c. search rules) count_wanted-requires returns
     (λ c. omega arith) (λ c. omega arith) loop-again returns-2)

@@ -16,7 +16,7 @@ use Rattle.table_slots.proofs.count_pair.Statement.{statement}
 use Rattle.table_slots.proofs.count_pair.Tie as tie
 
 abbrev start_of : tie.After-probe-found → tie.Start
-start_of c = c.before.before.before.before
+start_of c = c.before.before.before
 
 abbrev Ends : tie.After-probe-found → Slot → Type 0
 Ends c =
@@ -30,54 +30,54 @@ sought c =
     subst (λ (q : ℕ). Probed s.args.whole s.args.table.now s.args.i (firsts s.args.slots.now) q c.probe-found.result)
     (c.before.bucket_of.ensures.0 ∙ ap (bucket 27904) hashed) c.probe-found.ensures
 
-at-empty : (c : tie.In-Empty-2) → Ends c.before.before (Empty c.found-1.given.0.0)
-at-empty c = subst (Ends c.before.before) c.found-1.given.1 (sought c.before.before)
+at-empty : (c : tie.In-Empty) → Ends c.before (Empty c.in-Empty.q)
+at-empty c = subst (Ends c.before) c.in-Empty.is (sought c.before)
 
-at_held : (c : tie.In-Held-2) → Ends c.before.before (Held c.found-in-Held-1.given.0.0)
-at_held c = subst (Ends c.before.before) c.found-in-Held-1.given.1 (sought c.before.before)
+at_held : (c : tie.In-Held) → Ends c.before (Held c.in-Held.q)
+at_held c = subst (Ends c.before) c.in-Held.is (sought c.before)
 
-at-full : (c : tie.In-Full) → Ends c.before.before Full
-at-full c = subst (Ends c.before.before) c.enum_told-1.given.1 (sought c.before.before)
+at-full : (c : tie.In-Full) → Ends c.before Full
+at-full c = subst (Ends c.before) c.in-Full.is (sought c.before)
 
 size : (c : tie.After-probe-found) → length (start_of c).args.slots.now ≡ 28160
 size c = let (words, (near, (some, (hashed, (slot-words, low))))) = (start_of c).requires in slot-words
 
-empty-fits : (c : tie.In-Empty-2) → c.found-1.given.0.0 < length (start_of c.before.before).args.slots.now
+empty-fits : (c : tie.In-Empty) → c.in-Empty.q < length (start_of c.before).args.slots.now
 empty-fits c =
-    let s = start_of c.before.before in
-    omega (arith, empty-below s.args.whole s.args.table.now s.args.i (firsts s.args.slots.now) (at-empty c), size c.before.before)
+    let s = start_of c.before in
+    omega (arith, empty-below s.args.whole s.args.table.now s.args.i (firsts s.args.slots.now) (at-empty c), size c.before)
 
-held_fits : (c : tie.In-Held-2) → c.found-in-Held-1.given.0.0 < length (start_of c.before.before).args.slots.now
+held_fits : (c : tie.In-Held) → c.in-Held.q < length (start_of c.before).args.slots.now
 held_fits c =
-    let s = start_of c.before.before in
-    omega (arith, held_below s.args.whole s.args.table.now s.args.i (firsts s.args.slots.now) (at_held c), size c.before.before)
+    let s = start_of c.before in
+    omega (arith, held_below s.args.whole s.args.table.now s.args.i (firsts s.args.slots.now) (at_held c), size c.before)
 
-abbrev held_of : tie.After-number_in → tie.In-Held-2
-held_of c = c.before.before.before
+abbrev held_of : tie.After-number_in → tie.In-Held
+held_of c = c.before.before
 
 probe-requires : tie.Need-probe-found-requires
 probe-requires c κs =
-    let (words, (near, (some, (hashed, (slot-words, low))))) = c.before.before.before.requires in
+    let (words, (near, (some, (hashed, (slot-words, low))))) = c.before.before.requires in
     (words, (omega (arith, c.bucket_of.ensures.1), λ q. omega (arith, low q)))
 
 returns : tie.Need-returns-then-limit-number_in
 returns c =
     let f = held_of c.before in
-    let s = start_of f.before.before in (
+    let s = start_of f.before in (
       λ e. never e refl,
       λ e mine keyed m g. omega (arith, rank-counted s.args.whole s.args.table.now s.args.i, held-count keyed g m (at_held f), c.before.number_in.ensures, c.if-limit-number_in.true),
     )
 
-add-slots-3 : tie.Need-overflow_add-slots-3
+add-slots-3 : tie.Need-overflow_add-slots-in-Held
 add-slots-3 c =
     let f = held_of c.before in
-    let s = start_of f.before.before in
-    omega (arith, number-room (get_or s.args.slots.now f.found-in-Held-1.given.0.0 0) s.args.limit (omega (arith, c.before.number_in.ensures, c.if-limit-number_in.false)) (omega (arith, s.fits.limit)))
+    let s = start_of f.before in
+    omega (arith, number-room (get_or s.args.slots.now f.in-Held.q 0) s.args.limit (omega (arith, c.before.number_in.ensures, c.if-limit-number_in.false)) (omega (arith, s.ranges.limit)))
 
 returns-2 : tie.Need-returns-in-Empty
 returns-2 c =
-    let f = c.before in
-    let s = start_of f.before.before in
+    let f = c in
+    let s = start_of f.before in
     let (words, (near, (some, more))) = s.requires in (
       λ e mine keyed m g. (
         good_new keyed g near m (at-empty f),
@@ -89,7 +89,7 @@ returns-2 c =
 returns-3 : tie.Need-returns-else-limit-number_in
 returns-3 c =
     let f = held_of c.before in
-    let s = start_of f.before.before in (
+    let s = start_of f.before in (
       λ e mine keyed m g. (
         good-held keyed g m (at_held f),
         omega (arith, rank-counted s.args.whole s.args.table.now s.args.i, held-count keyed g m (at_held f), c.before.number_in.ensures, c.if-limit-number_in.false),
@@ -100,7 +100,7 @@ returns-3 c =
 returns-4 : tie.Need-returns-in-Full
 returns-4 c =
     let t = c.before in
-    let s = start_of t.before.before in (
+    let s = start_of t.before in (
       λ e mine keyed m g. (
         good-full keyed g (at-full t),
         omega (arith, leb-true c.rank.result s.args.limit e, c.rank.ensures),

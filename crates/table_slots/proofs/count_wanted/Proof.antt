@@ -2,7 +2,7 @@
 use Prim.Native.Nat.{ℕ}
 use mathlib.Core.Path.{◌≡◌, refl, sym, ◌∙◌, ap, ap₂}
 use mathlib.Core.Bool.{Bool, true, false, ◌&&◌}
-use borrow.Author.Tests.{not-true, not-false, eq-eqb, ne_eqb}
+use borrow.Author.Tests.{eq-eqb, ne_eqb}
 use lib.Dec.{eqb}
 use Rattle.laws.specs.Tests.{never}
 use Rattle.table_hash.specs.Hashes.{class_of, class_at}
@@ -19,7 +19,7 @@ start_of c = c.before.before.before.before
 abbrev wants : tie.Start → ℕ → Bool
 wants s = wanted s.args.whole s.args.table.now s.args.classes s.args.class s.args.marks.now
 
-abbrev good : (s : tie.Start) → Good s.args.whole s.args.table.now (wants s) s.args.i s.args.slots-1.now
+abbrev good : (s : tie.Start) → Good s.args.whole s.args.table.now (wants s) s.args.i s.args.slots.now
 good s = let (words, (near, (some, (classes, (mark-words, so_far))))) = s.requires in so_far
 
 classed : (c : tie.After-class_of) → let s = start_of c.before.before in c.class_of.result ≡ class_at s.args.whole s.args.table.now s.args.classes s.args.i
@@ -38,7 +38,7 @@ returns : tie.Need-returns-then-not-is_suspected
 returns c =
     let k = c.before in
     let s = start_of k in
-    let no = wants_is s {a = false} {b = eqb (class_at s.args.whole s.args.table.now s.args.classes s.args.i) s.args.class} (sym k.is_suspected.ensures ∙ not-true _ c.if-not-is_suspected.true) refl in (
+    let no = wants_is s {a = false} {b = eqb (class_at s.args.whole s.args.table.now s.args.classes s.args.i) s.args.class} (sym k.is_suspected.ensures ∙ c.if-not-is_suspected.true) refl in (
       λ e. good-skip (wanted-key _ _ _ _ _) (good s) (λ m. never m no),
       (λ e m. never m no, λ e. never refl e),
     )
@@ -48,7 +48,7 @@ returns-2 c =
     let k = c.before in
     let d = k.before in
     let s = start_of d.before in
-    let no = wants_is s {a = true} {b = false} (sym d.before.is_suspected.ensures ∙ not-false _ d.if-not-is_suspected.false) (ne_eqb _ _ (λ z. c.if-class_of-class.true (classed k ∙ z))) in (
+    let no = wants_is s {a = true} {b = false} (sym d.before.is_suspected.ensures ∙ d.if-not-is_suspected.false) (ne_eqb _ _ (λ z. c.if-class_of-class.true (classed k ∙ z))) in (
       λ e. good-skip (wanted-key _ _ _ _ _) (good s) (λ m. never m no),
       (λ e m. never m no, λ e. never refl e),
     )
@@ -68,7 +68,7 @@ returns-3 c =
     let k = e2.before in
     let d = k.before in
     let s = start_of d.before in
-    let yes = wants_is s {a = true} {b = true} (sym d.before.is_suspected.ensures ∙ not-false _ d.if-not-is_suspected.false) (eq-eqb _ _ (sym (classed k) ∙ e2.if-class_of-class.false)) in
+    let yes = wants_is s {a = true} {b = true} (sym d.before.is_suspected.ensures ∙ d.if-not-is_suspected.false) (eq-eqb _ _ (sym (classed k) ∙ e2.if-class_of-class.false)) in
     let key = wanted-key s.args.whole s.args.table.now s.args.classes s.args.class s.args.marks.now in (
       λ e. (t.count_pair.ensures.0 e (wants s) key yes (good s)).0,
       (λ e m. (t.count_pair.ensures.0 e (wants s) key yes (good s)).1, λ e. t.count_pair.ensures.1 e (wants s) key yes (good s)),

@@ -25,8 +25,8 @@ abbrev start_of : tie.After-place_in-f invariant-loop decreases-loop → tie.Sta
 start_of c = (loop_of c).before.before
 
 -- what is read is the slot's place
-read : (c : tie.After-place_in-f invariant-loop decreases-loop) → c.IsPlace-in.result ≡ get_or (firsts (start_of c).args.slots.now) ((start_of c).args.slot + (loop_of c).loop-t.t) 0
-read c = c.IsPlace-in.ensures ∙ sym (first-in (start_of c).args.slots.now ((start_of c).args.slot + (loop_of c).loop-t.t))
+read : (c : tie.After-place_in-f invariant-loop decreases-loop) → c.place_in-f.result ≡ get_or (firsts (start_of c).args.slots.now) ((start_of c).args.slot + (loop_of c).loop-t.t) 0
+read c = c.place_in-f.ensures ∙ sym (first-in (start_of c).args.slots.now ((start_of c).args.slot + (loop_of c).loop-t.t))
 
 loop-holds : tie.Need-loop-t-init invariant-loop decreases-loop
 loop-holds c = (omega arith, λ s l. absurd (omega arith))
@@ -37,7 +37,7 @@ returns c =
     record { steps = l.loop-t.t; within = omega arith; there = refl; passed = l.loop-t.invariant.1; empty = sym (read c.before) ∙ c.if-f-eq0.true }
 
 -- a slot in use has a place of the table
-there : (c : tie.Else-f-eq0 invariant-loop decreases-loop) → 2 * (c.before.IsPlace-in.result - 1) + 1 < length (start_of c.before).args.table.now
+there : (c : tie.Else-f-eq0 invariant-loop decreases-loop) → 2 * (c.before.place_in-f.result - 1) + 1 < length (start_of c.before).args.table.now
 there c =
     let s = start_of c.before in
     let (words, (slots, low)) = s.requires in
