@@ -1,5 +1,5 @@
 -- Blocks of groups: one group more at the end.
-use Rattle.std.proofs.Common.{◌≡◌, ℕ, zero, suc, ◌+◌, ◌-◌, ◌*◌, ◌%◌, ◌^◌, ◌<◌, ◌≤◌, Bool, true, false, ltb, leb, List, [], ◌∷◌, ◌++◌, length, get_or, take, set, ℤ, pos, nat_abs, sym, refl, ap, ◌∙◌, arith, take-suc, take-suc-set, ltb-false, ltb-true, leb-false, leb-true}
+use Rattle.std.proofs.Common.{◌≡◌, ℕ, zero, suc, ◌+◌, ◌-◌, ◌*◌, ◌<◌, ◌≤◌, Bool, true, false, ltb, leb, List, [], ◌∷◌, ◌++◌, length, get_or, take, set, ℤ, pos, nat_abs, sym, refl, ap, ◌∙◌, arith, take-suc, take-suc-set, ltb-false, ltb-true, leb-false, leb-true}
 use lib.Seq.{take-set-le}
 use Rattle.language.specs.Table.{members}
 use Rattle.laws.specs.Tables.{group_at, members-next}
@@ -31,10 +31,6 @@ times-rise g block j (suc n) l h = go (leb j n) refl (λ b. times-rise g block j
     go false q before = let z : j ≡ suc n = omega (arith, leb-false j n q) in rw z (omega arith)
 
 -- ---- gathering
-
--- where the difference that wraps is more than the span, the group is outside
-pub outside : (first span group r : ℕ) → first + span < 4294967296 → group < 4294967296 → r < 4294967296 → (r + first) % 2 ^ 32 ≡ group → span < r → first ≤ group → group ≤ first + span → ⊥
-outside first span group r h k m e b lo hi = omega arith
 
 pub gathered_none : (ws : List ℤ) (from first span : ℕ) (block : List ℕ) → Gathered ws from from first span (take 0 block)
 gathered_none ws from first span block g lo hi = omega (arith, times_none g)

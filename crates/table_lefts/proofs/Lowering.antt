@@ -1,5 +1,5 @@
 -- What is left of the numbers, after one pair more.
-use Prim.Native.Nat.{ℕ, suc, ◌+◌, ◌*◌, ◌-◌, ◌≤◌, ◌<◌}
+use Prim.Native.Nat.{ℕ, suc, ◌+◌, ◌*◌, ◌≤◌, ◌<◌}
 use mathlib.Core.Path.{◌≡◌, refl, sym, ◌∙◌, ap}
 use mathlib.Core.Bool.{Bool, true, false, cond}
 use mathlib.Core.List.{List}
@@ -7,58 +7,20 @@ use native.Mathlib.Omega.{arith}
 use borrow.Author.Tests.{eqb-true, eqb-false, eq-eqb, ne_eqb}
 use lib.Dec.{eqb}
 use lib.IntN.{ℤ, pos, nat_abs}
-use lib.ListN.{length, get_or, set, replicate, length-replicate}
-use lib.Seq.{get_or-set_same, get_or-set_other}
+use lib.ListN.{length, get_or}
 use Rattle.language.specs.Basics.{eq_z}
 use Rattle.laws.specs.Tests.{eq_z-refl, ne-eq_z}
 use Rattle.laws.specs.Tables.{group_at, counts, members-zero, members-next}
 use Rattle.table_places.specs.Places.{Natural, group_in, number_in, places_in, Rising}
 use Rattle.table_places.proofs.Naturals.{natural-is}
-use Rattle.table_index.specs.Index.{Sought}
-use Rattle.table_totals.specs.Placed.{members_of, Tallied, apart_in, members-rise}
-use Rattle.table_lefts.specs.Lefts.{once, Lowered, Exhausted, LeftsAre, SomeLeft, Roomy}
+use Rattle.table_totals.specs.Placed.{members_of, Tallied, members-rise}
+use Rattle.table_lefts.specs.Lefts.{once, Lowered, Exhausted, LeftsAre, SomeLeft}
 
 pub once-same : {g x : ℕ} → x ≡ g → once g x ≡ 1
 once-same {g} {x} e = rw (eq-eqb x g e)
 
 pub once-other : {g x : ℕ} → (x ≡ g → ⊥) → once g x ≡ 0
 once-other {g} {x} h = rw (ne_eqb x g h)
-
--- ---- one place
-
-module _ (l : List ℤ) (group x : ℕ) (lefts : List ℕ) (sought : Sought l (places_in l) group x) where
-  pub lowered_none : x ≡ 0 → Lowered l group lefts lefts
-  lowered_none e p b = omega (arith, once-other {g = group_in l p} {x = group} (λ z. sought.none e p b (sym z)))
-
-  module _ (some : x ≡ 0 → ⊥) where
-    within : x - 1 < places_in l
-    within = omega (arith, sought.within, some)
-
-    here : group_in l (x - 1) ≡ group
-    here = sought.there (omega (arith, some))
-
-    pub exhausted-here : get_or lefts (x - 1) 0 ≡ 0 → Exhausted l group lefts
-    exhausted-here none = record { place = x - 1; within = within; here = here; none = none }
-
-    pub lowered-here :
-        Rising (places_in l) l → places_in l ≤ length lefts → (get_or lefts (x - 1) 0 ≡ 0 → ⊥) → Lowered l group lefts (set lefts (x - 1) (get_or lefts (x - 1) 0 - 1))
-    lowered-here rising long more p b = go (eqb p q) refl
-      where
-        q : ℕ
-        q = x - 1
-
-        v : ℕ
-        v = get_or lefts q 0 - 1
-
-        go : (t : Bool) → eqb p q ≡ t → get_or (set lefts q v) p 0 + once (group_in l p) group ≡ get_or lefts p 0
-        go true e =
-            let z = eqb-true p q e in
-            rw (z, get_or-set_same lefts q v 0 (omega (arith, within)))
-            (omega (arith, more, once-same {g = group_in l q} {x = group} (sym here)))
-        go false e =
-            let d = eqb-false p q e in
-            rw (get_or-set_other lefts q p v 0 d)
-            (omega (arith, once-other {g = group_in l p} {x = group} (λ z. d (apart_in rising p q b within (sym z ∙ sym here)))))
 
 -- ---- all places
 
@@ -109,21 +71,3 @@ module _ (ws l : List ℤ) (count : ℕ) (lefts : List ℕ) (are : LeftsAre ws c
   lefts-wrong left tallied =
       let p = left.place in
       left.some (omega (arith, are p left.within, tallied p left.within))
-
--- ---- slots as they are made
-
-pub fresh-roomy : (n size long : ℕ) → n < 65535 → n < size → size ≤ 4294967296 → n ≤ long → Roomy n (replicate size 0) (replicate long 0)
-fresh-roomy n size long few more most enough =
-    let e = length-replicate {A = ℕ} size 0 in
-    let f = length-replicate {A = ℕ} long 0 in
-    record { few = few; more = omega arith; most = omega arith; long = omega arith }
-
-pub fresh-empty : (size : ℕ) → ◌≡◌ {A = List ℕ} (replicate size 0) (replicate (length (replicate {A = ℕ} size 0)) 0)
-fresh-empty size = ap (λ (n : ℕ). replicate n 0) (sym (length-replicate {A = ℕ} size 0))
-
--- what is asked of new slots and numbers, from what their function is asked
-pub fresh_in : {A B C : Type 0} {n size long : ℕ} → long < 65535 → long < size → size ≤ 4294967296 → A × (B × (C × (n ≤ long)))
-    → A × (B × (C × (Roomy n (replicate size 0) (replicate long 0) × (◌≡◌ {A = List ℕ} (replicate size 0) (replicate (length (replicate {A = ℕ} size 0)) 0)))))
-fresh_in {n} {size} {long} a b c p =
-    let few = p.1.1.1 in
-    (p.0, (p.1.0, (p.1.1.0, (fresh-roomy n size long (omega arith) (omega arith) c few, fresh-empty size))))

@@ -1,4 +1,6 @@
 // Whether a lent list of groups agrees with the table, and no group is larger than the limit.
+#![tactic(auto)]
+
 ghost use Rattle.std.specs.Prelude.{◌≡◌, true, ◌&&◌, ◌*◌, ◌≤◌, length};
 ghost use Rattle.language.specs.Table.{numbers_right, groups_within};
 ghost use Rattle.language.specs.Groups.{list_words, list_right};

@@ -1,4 +1,6 @@
 // Whether a table and the list of groups beside it are right.
+#![tactic(auto)]
+
 ghost use Rattle.std.specs.Prelude.{◌≡◌, ◌&&◌, ◌*◌, ◌≤◌, length};
 ghost use Rattle.language.specs.Table.{numbers_right, right};
 ghost use Rattle.language.specs.Groups.{list_words, list_right};

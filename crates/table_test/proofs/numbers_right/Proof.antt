@@ -5,7 +5,6 @@ use mathlib.Core.Path.{◌≡◌, sym, ◌∙◌}
 use mathlib.Core.Bool.{true}
 use native.Mathlib.Numerals.{add-one}
 use native.Mathlib.Omega.{arith}
-use borrow.Author.Tests.{not-true, not-false}
 use Rattle.table_keys.specs.Keys.{each}
 use Rattle.table_search.proofs.Signed.{number-words}
 use Rattle.table_keys.proofs.Each.{each_none, each_next, each-false}
@@ -34,12 +33,12 @@ returns c =
     let l = loop_of c.before in
     let s = l.before in
     sym (numbers-each s.args.table.now s.args.count s.requires
-    ∙ each-false (numbers_at s.args.table.now) s.args.count l.loop-i.i (omega arith) (sym (tested c.before) ∙ not-true _ c.if-not-numbers_fit.true))
+    ∙ each-false (numbers_at s.args.table.now) s.args.count l.loop-i.i (omega arith) (sym (tested c.before) ∙ c.if-not-numbers_fit.true))
 
 loop-again : tie.Need-loop-i-preserved invariant-loop decreases-loop
 loop-again c =
     let l = loop_of c.before in
-    (omega arith, rw add-one (each_next _ l.loop-i.i l.loop-i.invariant.1 (sym (tested c.before) ∙ not-false _ c.if-not-numbers_fit.false)))
+    (omega arith, rw add-one (each_next _ l.loop-i.i l.loop-i.invariant.1 (sym (tested c.before) ∙ c.if-not-numbers_fit.false)))
 
 returns-2 : tie.Need-returns invariant-loop decreases-loop
 returns-2 c =
