@@ -4,10 +4,8 @@ use mathlib.Core.Path.{◌≡◌, refl, sym, ◌∙◌, ap, ap₂, subst}
 use mathlib.Core.Bool.{Bool, true, false, ◌&&◌}
 use mathlib.Core.List.{List, [], ◌∷◌}
 use Prim.Native.Nat.{ℕ, zero, suc, ◌≤◌}
-use native.Mathlib.Omega.{arith}
 use lib.Dec.{leb}
 use lib.ListN.{get_or}
-use borrow.Author.Tests.{leb-true, leb-false}
 use Rattle.language.specs.Basics.{among}
 use Rattle.language.specs.Text.{Decl, Decls, PR, decl, decl_name, formal_names}
 use Rattle.language.specs.Structure.{Reading as Outcome, read, refuse, Reader, ◌>>=◌, ◌>>◌, give, Record, DeclMark, is_vR, is_lB, is_pR, block_marks, decl_marks, take-record, formals, BlockReader, declared, declarations}
@@ -24,7 +22,7 @@ use Rattle.check_marks.specs.Marks.{decl_mark}
 use Rattle.check_records.specs.Taking.{unread, record_at, forget}
 use Rattle.check_records.proofs.Steps.{Step, stepped, stopped}
 use Rattle.check_bounds.specs.Marks.{decl_mark_of}
-use Rattle.check_bounds.specs.Judging.{ranged_of, once_at, FewFormals}
+use Rattle.check_bounds.specs.Judging.{ranged_of, once_at}
 use Rattle.check_blocks.specs.Progress.{body_of, below_of}
 use Rattle.check_blocks.proofs.Lands.{Landed, landed, turned-away, AllTrack, tracks-declared}
 use Rattle.check_bounds.proofs.Marks.{ranged-label, ranged-no-label}

@@ -8,4 +8,3 @@ pub mod StmtLaws
 pub mod BlockLaws
 pub mod Loops
 pub mod Shapes
-pub mod Rows

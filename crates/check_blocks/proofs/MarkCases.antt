@@ -1,8 +1,7 @@
 -- A mark by its case: what comes after a declaration's own record, and what a statement is. Assumes nothing.
 use mathlib.Core.Path.{◌≡◌, refl, sym, ◌∙◌, ap, subst}
-use mathlib.Core.List.{List, [], ◌∷◌}
+use mathlib.Core.List.{List, []}
 use Prim.Native.Nat.{ℕ, ◌≤◌}
-use types.Run.{OneOf}
 use mathlib.Core.Bool.{Bool, true, false}
 use lib.Dec.{T}
 use Rattle.language.specs.Structure.{BlockReader, DeclMark, is_vR, is_lB, is_pR, StmtMark, is_bK, is_cL, is_gO, is_iF, is_kN, is_aR, is_aD, is_rM, is_qY}
@@ -13,16 +12,15 @@ use Rattle.check_records.specs.declared.Progress.TheVariants.{At}
 use Rattle.check_records.specs.Taking.{forget}
 use Rattle.check_bounds.specs.Marks.{decl_mark_of, stmt_mark_of}
 use Rattle.check_bounds.specs.Judging.{action_of, FewFormals}
-use Rattle.check_bounds.proofs.Marks.{keyed, tag}
 use Rattle.check_blocks.specs.Progress.{body_of, below_of, stated_of, plain_of, action_mark}
 
 -- a mark that is no PR, and one that is no BK
-pub others-plain : (m : Mark) → OneOf (0 ∷ 1 ∷ 2 ∷ 4 ∷ 5 ∷ 6 ∷ 7 ∷ 8 ∷ 9 ∷ 10 ∷ 11 ∷ 12 ∷ []) (tag m) → true ≡ plain_of (decl_mark_of m)
+pub others-plain : (m : Mark) → (m ≡ PR → ⊥) → true ≡ plain_of (decl_mark_of m)
 unfolding decl_mark_of
 others-plain BK h = refl
 others-plain VR h = refl
 others-plain LB h = refl
-others-plain PR h = absurd (keyed (0 ∷ 1 ∷ 2 ∷ 4 ∷ 5 ∷ 6 ∷ 7 ∷ 8 ∷ 9 ∷ 10 ∷ 11 ∷ 12 ∷ []) 3 h)
+others-plain PR h = absurd (h refl)
 others-plain FM h = refl
 others-plain CL h = refl
 others-plain GO h = refl
@@ -33,9 +31,9 @@ others-plain AD h = refl
 others-plain RM h = refl
 others-plain QY h = refl
 
-pub others-act : (m : Mark) → OneOf (1 ∷ 2 ∷ 3 ∷ 4 ∷ 5 ∷ 6 ∷ 7 ∷ 8 ∷ 9 ∷ 10 ∷ 11 ∷ 12 ∷ []) (tag m) → true ≡ action_mark (stmt_mark_of m)
+pub others-act : (m : Mark) → (m ≡ BK → ⊥) → true ≡ action_mark (stmt_mark_of m)
 unfolding stmt_mark_of
-others-act BK h = absurd (keyed (1 ∷ 2 ∷ 3 ∷ 4 ∷ 5 ∷ 6 ∷ 7 ∷ 8 ∷ 9 ∷ 10 ∷ 11 ∷ 12 ∷ []) 0 h)
+others-act BK h = absurd (h refl)
 others-act VR h = refl
 others-act LB h = refl
 others-act PR h = refl

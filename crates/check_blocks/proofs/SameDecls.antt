@@ -4,7 +4,7 @@ use mathlib.Core.List.{List, ◌∷◌}
 use Prim.Native.Nat.{ℕ, zero, suc}
 use lib.ListN.{get_or}
 use Rattle.language.specs.Text.{decl_name}
-use Rattle.language.specs.Structure.{Reader, ◌>>=◌, DeclMark, is_vR, is_lB, is_pR, decl_marks, take-record, BlockReader, declared, declarations}
+use Rattle.language.specs.Structure.{DeclMark, is_vR, is_lB, is_pR, decl_marks, take-record, BlockReader, declared, declarations}
 use Rattle.check_names.proofs.SameNames.{Same, same-cons, then_same}
 
 pub declared_same : (body : BlockReader) (s : ℕ) (xs ys : List ℕ) (m : DeclMark) (at : ℕ) (fs : List ℕ) → Same xs ys → declared body s xs m at fs ≡ declared body s ys m at fs

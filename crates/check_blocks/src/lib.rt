@@ -1,8 +1,9 @@
 // A block of a script: its declarations with their bodies, and its statements. A block stands in a body and in a statement again, so
 // the functions call each other in a cycle, in which the unread bytes fall. No count is trusted: room is taken for no record that has
 // not been read. The names of each level stand in one array, outermost first; one level more than may be nested is for the formals of
-// a procedure whose body is then refused as too deep. The borrow checker covers no function that has a reader, and no member of a cycle
-// that has such a member, so the proofs of the five are walks, and they leave the judging to functions that have none.
+// a procedure whose body is then refused as too deep.
+#![tactic(auto)]
+
 ghost use Rattle.std.specs.Prelude.{◌≡◌, ◌+◌, ◌≤◌, length, take};
 ghost use Rattle.language.specs.Structure.{block_with, declarations as all_declared, statements as all_stated};
 ghost use Rattle.check_records.specs.Taking.{unread, forget};

@@ -1,4 +1,6 @@
 // The script check's call, from the script's bytes to the answer's words.
+#![tactic(auto)]
+
 ghost use Rattle.std.specs.Prelude.{◌≡◌};
 ghost use Rattle.language.specs.Check.{check};
 ghost use Rattle.check_call.specs.Answers.{check_words};

@@ -1,25 +1,22 @@
 -- One declaration or statement, by its mark.
 -- Assumes nothing.
 use mathlib.Core.Path.{◌≡◌, refl, sym, ◌∙◌, ap, subst}
-use mathlib.Core.List.{List, [], ◌∷◌, ◌++◌, append-nil}
-use Prim.Native.Nat.{ℕ, suc, ◌+◌, ◌*◌, ◌<◌, ◌≤◌}
+use mathlib.Core.List.{List, [], ◌∷◌}
+use Prim.Native.Nat.{ℕ, suc, ◌+◌, ◌*◌, ◌<◌}
 use native.Mathlib.Omega.{arith}
-use lib.ListN.{length, length-append}
-use Rattle.language.specs.Text.{Formal, Action, CL, GO, IF, KN, AR, AD, RM, QY, Block, block, VR, LB, PR, BK, DO}
-use Rattle.language.specs.Encoding.{action_fields, formals_fields, block_fields, decl_fields, stmt_fields, BK-mark, VR-mark, LB-mark, PR-mark, CL-mark, IF-mark, AR-mark, AD-mark, RM-mark, QY-mark, operation_field}
+use lib.ListN.{length}
+use Rattle.language.specs.Text.{Action, CL, GO, IF, KN, AR, AD, RM, QY}
+use Rattle.language.specs.Encoding.{action_fields, BK-mark, VR-mark, LB-mark, PR-mark, CL-mark, IF-mark, AR-mark, AD-mark, RM-mark, QY-mark, operation_field}
 use Rattle.language.specs.Scope.{Scope, fine, wrong, judge_action, judge_block, judge_decl, judge_stmt}
 use Rattle.language.specs.Scope as definitions
 use Rattle.check_records.specs.declared.Progress.{Progress}
-use Rattle.check_records.specs.declared.Progress.TheVariants.{At, Refused}
-use Rattle.grammar.specs.Rules.{FormedBlock, FormedDecl, FormedStmt, FormedFormals}
-use Rattle.laws.specs.Fields.{field_at, FieldsStand, fields-first, fields-after, fields-are, fields-third}
+use Rattle.check_records.specs.declared.Progress.TheVariants.{At}
+use Rattle.laws.specs.Fields.{field_at, FieldsStand, fields-after, fields-are, fields-third}
 use Rattle.check_uses.specs.Meanings.{verdict_of, scope_from}
 use Rattle.check_statements.specs.Shapes.{shape_of, judged_as}
 use Rattle.check_extents.specs.Items.{Item, item_fields}
-use Rattle.check_extents.specs.Passing.{Passed}
 use Rattle.check_statements.specs.Walked.{progress_after, Walked}
-use Rattle.check_scope.specs.Walking.{progress_of, Ahead, judge_item, FormedItem, BlockHere, ItemHere, BlockJudged, ItemJudged}
-use Rattle.check_extents.specs.declared.passing.Step.{Step}
+use Rattle.check_scope.specs.Walking.{progress_of, Ahead, judge_item, BlockJudged, ItemJudged}
 use Rattle.language.specs.declared.Verdict.{Verdict}
 use Rattle.language.specs.declared.Verdict.TheVariants.{Fit}
 use Rattle.language.specs.declared.Verdict.TheVariants as verdicts

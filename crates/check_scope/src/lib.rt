@@ -1,5 +1,7 @@
 // The script check's second half: what each name used stands for, refusals 9 to 11, in file order. The walk is safe on any
 // bytes up to 8,192: only its answer asks for a script that is fit in structure.
+#![tactic(auto)]
+
 ghost use Rattle.std.specs.Prelude.{◌≡◌, ◌≤◌, length};
 ghost use Rattle.language.specs.Encoding.{fields_of};
 ghost use Rattle.language.specs.Structure.{program};

@@ -13,7 +13,7 @@ use Rattle.language.specs.Encoding.{fields_of}
 use Rattle.language.specs.Structure.{program, Reading}
 use Rattle.language.specs.Scope.{judge_block, fine, wrong}
 use Rattle.language.specs.Scope as definitions
-use Rattle.language.specs.Check.{length_fits, judged, check, refused}
+use Rattle.language.specs.Check.{length_fits, judged, check}
 use Rattle.language.specs.declared.Refusal.{Refusal}
 use Rattle.language.specs.declared.Refusal.TheVariants.{ScriptLength}
 use Rattle.language.specs.declared.Verdict.{Verdict}

@@ -1,4 +1,6 @@
 // The script check: 1 to 11 with the offset, in the paper's order. Structure first, then scope and kinds.
+#![tactic(auto)]
+
 ghost use Rattle.std.specs.Prelude.{◌≡◌};
 ghost use Rattle.language.specs.Check.{check};
 ghost use Rattle.check_script.specs.Verdicts.{verdict_of};

@@ -1,4 +1,6 @@
 // The names of a statement other than BK, judged left to right: 9 to 11, and where the walk goes on.
+#![tactic(auto)]
+
 ghost use Rattle.std.specs.Prelude.{◌≡◌, ◌+◌, ◌^◌, ◌<◌};
 ghost use Rattle.language.specs.Encoding.{BK-mark, PR-mark, VR-mark};
 ghost use Rattle.laws.specs.Fields.{field_at};

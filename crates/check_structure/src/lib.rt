@@ -1,4 +1,6 @@
 // The script check's first half, 1 to 8: the length, the program's block and all that stands in it, and nothing after it.
+#![tactic(auto)]
+
 ghost use Rattle.std.specs.Prelude.{◌≡◌};
 ghost use Rattle.check_structure.specs.Structure.{closing, structure_of};
 

@@ -1,4 +1,6 @@
 // How many names a record of a script has, by its mark: for the passes that write a word for each name's field. All is safe on any bytes.
+#![tactic(auto)]
+
 ghost use Rattle.std.specs.Prelude.{◌≡◌, ◌+◌, ◌<◌, ◌≤◌};
 ghost use Rattle.laws.specs.Fields.{field_at};
 ghost use Rattle.resolve_fields.specs.Taking as taking;

@@ -5,9 +5,8 @@ use mathlib.Core.List.{List, [], ◌∷◌, ◌++◌, map}
 use mathlib.Core.Logic.{◌⊎◌, inl, inr}
 use Prim.Native.Nat.{ℕ, zero, suc, ◌+◌, ◌*◌, ◌-◌, ◌/◌, ◌<◌, ◌≤◌}
 use native.Mathlib.Nat.{eq-or-lt_of_le}
-use native.Mathlib.Numerals.{add-one}
 use native.Mathlib.Omega.{arith}
-use lib.ListN.{length, get_or, take, drop, set, length-drop}
+use lib.ListN.{length, get_or, take, drop, set}
 use lib.Seq.{drop-cons, get_or-set_same, get_or-set_other, get_or-take}
 use Rattle.language.specs.Basics.{zip}
 use Rattle.language.specs.Text.{Formal, Block, block, Decl, VR, LB, PR, Decls, no-decl, decl, decls, decl_name, formal_names, block_at, block_stmts}

@@ -2,25 +2,25 @@
 -- Assumes nothing.
 use mathlib.Core.Path.{◌≡◌, refl, sym, ◌∙◌, ap, ap₂, subst}
 use mathlib.Core.List.{List, [], ◌∷◌, ◌++◌, map, map-append, append_assoc}
-use Prim.Native.Nat.{ℕ, suc, ◌+◌, ◌*◌, ◌-◌, ◌/◌, ◌<◌, ◌≤◌}
+use Prim.Native.Nat.{ℕ, suc, ◌+◌, ◌*◌, ◌/◌, ◌<◌, ◌≤◌}
 use native.Mathlib.Omega.{arith}
 use lib.ListN.{length, get_or, take, drop, length-append, length-map}
-use lib.Seq.{take-take, get_or-take}
+use lib.Seq.{get_or-take}
 use Rattle.language.specs.Basics.{zip}
 use Rattle.language.specs.Text.{Formal, Block, block, Decl, VR, LB, PR, Decls, no-decl, decl, Stmts, decls, stmts, decl_name, block_at, block_decls, block_stmts, formal_names, declared_names}
-use Rattle.language.specs.Encoding.{kind_field, formals_fields, block_fields, decl_fields, decls_fields, stmts_fields, BK-mark, LB-mark}
+use Rattle.language.specs.Encoding.{formals_fields, block_fields, decl_fields, decls_fields, stmts_fields, BK-mark, LB-mark}
 use Rattle.laws.specs.Each.{Each, each_append}
 use Rattle.laws.specs.Lookup.{zip-append}
 use Rattle.grammar.specs.Rules.{FormedFormals, FormedBlock, FormedDecl, FormedDecls, FormedStmts}
-use Rattle.coordinates.specs.Enclosure.{Enclosing, enclosed, Enclosure, names_of}
-use Rattle.resolved.specs.Resolved.{packed, place_of, decl_target, decl_kind_field, formal_words, decl_words, own_words, visible_words, stmt_place}
-use Rattle.resolved.proofs.NameWords.{kind-small}
+use Rattle.coordinates.specs.Enclosure.{enclosed, Enclosure, names_of}
+use Rattle.resolved.specs.Resolved.{packed, decl_target, decl_kind_field, formal_words, decl_words, own_words, visible_words, stmt_place}
+use Rattle.resolved.specs.NameWords.{kind-small}
 use Rattle.laws.specs.Fields.{field_at, FieldsStand, fields-first, fields-after, fields-third}
-use Rattle.check_extents.specs.Items.{Item, declared, stated, items_fields}
+use Rattle.check_extents.specs.Items.{declared, stated, items_fields}
 use Rattle.check_extents.proofs.Inside.{decl-items, stmt-items}
 use Rattle.check_scope.specs.Walking.{BlockHere}
 use Rattle.check_scope.proofs.Blocks.{stacked}
-use Rattle.resolve_words.specs.Visible.{Short, Fits, Shown, entry_of}
+use Rattle.resolve_words.specs.Visible.{Fits, Shown, entry_of}
 use Rattle.resolve_names.specs.Declared.{starts_of, Started, Noted, IfLabelled, Stated, OwnPut, formal_entries, decl_entries, Declares}
 use Rattle.resolve_names.proofs.Declarations.{formals-put, decls-put}
 use Rattle.resolve_names.proofs.Statements.{stmts-two, decls-two, stated-there, place-near, first-place}

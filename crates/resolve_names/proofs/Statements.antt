@@ -1,21 +1,20 @@
 -- Where a block's statements stand, from the offsets of its records.
 -- Assumes nothing.
-use mathlib.Core.Path.{◌≡◌, refl, sym, ◌∙◌, ap, subst}
-use mathlib.Core.List.{List, [], ◌∷◌, ◌++◌, map}
+use mathlib.Core.Path.{◌≡◌, refl, sym, ◌∙◌, ap}
+use mathlib.Core.List.{List, [], map}
 use mathlib.Core.Option.{some}
-use Prim.Native.Nat.{ℕ, zero, suc, ◌+◌, ◌*◌, ◌-◌, ◌/◌, ◌<◌, ◌≤◌}
+use Prim.Native.Nat.{ℕ, zero, suc, ◌+◌, ◌*◌, ◌-◌, ◌/◌, ◌≤◌}
 use native.Mathlib.Omega.{arith}
-use lib.ListN.{length, get_or, take, drop, get_elem?, length-append, length-map}
+use lib.ListN.{length, get_or, take, drop, get_elem?, length-append}
 use lib.Seq.{get_or-take, get_or-drop}
 use Rattle.language.specs.Text.{Action, CL, GO, IF, KN, AR, AD, RM, QY, Block, block, Decl, VR, LB, PR, Stmt, BK, DO, Decls, no-decl, decl, Stmts, no-stmt, stmt, decls, stmts, block_at, block_stmts, stmt_at}
 use Rattle.language.specs.Encoding.{action_fields, block_fields, decl_fields, stmt_fields, decls_fields, stmts_fields}
 use Rattle.laws.specs.Tests.{none≢some, some_inj}
 use Rattle.laws.specs.Lists.{get_elem-in}
-use Rattle.grammar.specs.Rules.{FormedBlock, FormedStmt, FormedStmts}
-use Rattle.resolved.specs.Resolved.{place_of, end_place, stmt_place}
-use Rattle.resolved.proofs.Places.{stmt-place, place-past}
-use Rattle.check_extents.specs.Items.{Item, stated, item_fields, items_fields}
-use Rattle.check_extents.proofs.Inside.{stmt-items}
+use Rattle.grammar.specs.Rules.{FormedStmt, FormedStmts}
+use Rattle.resolved.specs.Resolved.{end_place, stmt_place}
+use Rattle.resolved.specs.Places.{stmt-place, place-past}
+use Rattle.check_extents.specs.Items.{stated, item_fields}
 use Rattle.resolve_names.specs.Declared.{starts_of, Stated}
 
 -- every record has two fields

@@ -1,4 +1,6 @@
 // A block's own names with their words, put into the array of visible names. All is safe on any bytes up to 8,192.
+#![tactic(auto)]
+
 ghost use Rattle.std.specs.Prelude.{◌≡◌, false, ◌+◌, ◌^◌, ◌<◌, ◌≤◌, length, get_or};
 ghost use Rattle.check_extents.specs.Passing.{Ends};
 ghost use Rattle.resolve_names.specs.Declared.{Noted, Unlabelled, IfLabelled, Worded, DeclaredEntry, FormalEntry, OwnEntry, OwnPut, Declarable, Declares};

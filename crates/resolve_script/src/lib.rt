@@ -1,5 +1,7 @@
 // The resolved script, computed from the script's bytes. The walk is safe on any bytes: only its answer asks for a script that the check
 // accepts.
+#![tactic(auto)]
+
 ghost use Rattle.std.specs.Prelude.{◌≡◌, replicate};
 ghost use Rattle.resolve_script.specs.Resolving.{Resolved};
 

@@ -2,17 +2,17 @@
 -- Assumes nothing.
 use mathlib.Core.Path.{◌≡◌, refl, sym, ◌∙◌, ap, ap₂, subst}
 use mathlib.Core.Bool.{Bool, true, false, ◌&&◌}
-use mathlib.Core.List.{List, [], ◌∷◌, ◌++◌, map}
+use mathlib.Core.List.{List, [], ◌∷◌, map}
 use Prim.Native.Nat.{ℕ, zero, suc, ◌+◌, ◌*◌, ◌-◌, ◌/◌, ◌%◌, ◌<◌, ◌≤◌}
 use native.Mathlib.Omega.{arith}
 use lib.Dec.{eqb}
-use lib.ListN.{length, get_or, set, length-set}
-use borrow.Author.Tests.{eq-eqb, ne_eqb}
+use lib.ListN.{length, set, length-set}
+use borrow.Author.Tests.{ne_eqb}
 use Rattle.language.specs.Text.{Action, CL, GO, IF, KN, AR, AD, RM, QY}
-use Rattle.language.specs.Encoding.{action_fields, operation_field, unsigned, CL-mark, GO-mark, IF-mark, KN-mark, AR-mark, AD-mark, RM-mark, QY-mark}
+use Rattle.language.specs.Encoding.{action_fields, unsigned, CL-mark, GO-mark, IF-mark, KN-mark, AR-mark, AD-mark, RM-mark}
 use Rattle.coordinates.specs.Enclosure.{Enclosure}
 use Rattle.resolved.specs.Resolved.{formal_in, direct, chosen, name_word, resolved_action}
-use Rattle.laws.specs.Fields.{field_at, fields_at, FieldsStand, fields-are, fields-third, field_is}
+use Rattle.laws.specs.Fields.{field_at, fields_at, FieldsStand, fields-are, field_is}
 use Rattle.resolve_words.specs.Growth.{Grown}
 use Rattle.resolve_words.specs.Visible.{word_in, used_at, Short, AllShort, Shown}
 use Rattle.resolve_statements.specs.Emitted.{kn_words, ar_words, if_words, go_words, cl_words, pair_words, qy_words, argument_words, emitted_as, Written, Emitted}

@@ -1,4 +1,6 @@
 // The words of a statement of the resolved script, written at their places. All is safe on any bytes.
+#![tactic(auto)]
+
 ghost use Rattle.std.specs.Prelude.{◌≡◌, ◌∷◌, ◌+◌, ◌*◌, ◌^◌, ◌<◌, eqb, drop};
 ghost use Rattle.check_symbols.specs.Chains.{Chained};
 ghost use Rattle.laws.specs.Fields.{field_at};
