@@ -1,17 +1,13 @@
 -- A mark by its case: which of the definitions' marks it is, and what that says of the record's own fields. Assumes nothing.
-use mathlib.Core.Path.{◌≡◌, refl, sym, ◌∙◌, ap, ap₂, subst}
-use mathlib.Core.Bool.{Bool, true, false, ◌&&◌}
-use mathlib.Core.Logic.{⊎_elim}
-use mathlib.Core.List.{List, [], ◌∷◌}
+use mathlib.Core.Path.{◌≡◌, refl, sym, ◌∙◌, ap, ap₂}
+use mathlib.Core.Bool.{true, false, ◌&&◌}
+use mathlib.Core.List.{List}
 use Prim.Native.Nat.{ℕ, ◌<◌, ◌≤◌}
 use native.Mathlib.Omega.{arith}
-use lib.Dec.{T, eqb, leb}
-use borrow.Author.Tests.{le-leb, lt-leb, eq-eqb}
-use types.Run.{OneOf}
-use denote.Enum.Declared.{tag_of}
+use lib.Dec.{leb}
+use borrow.Author.Tests.{le-leb, lt-leb}
 use Rattle.language.specs.Structure.{fields, is_lB, is_pR, is_cL, is_aR}
 use Rattle.language.specs.declared.Refusal.TheVariants.{FieldRange, TooManyNames}
-use Rattle.check_marks.specs.contracts.Mark as M
 use Rattle.check_marks.specs.declared.Mark.{Mark}
 use Rattle.check_marks.specs.declared.Mark.TheVariants.{BK, VR, LB, PR, FM, CL, GO, IF, KN, AR, AD, RM, QY}
 use Rattle.check_records.specs.declared.Progress.{Progress}
@@ -19,30 +15,6 @@ use Rattle.check_records.specs.declared.Progress.TheVariants.{At, Refused}
 use Rattle.check_records.specs.Taking.{forget}
 use Rattle.check_bounds.specs.Marks.{decl_mark_of, stmt_mark_of}
 use Rattle.check_bounds.specs.Judging.{ranged_of, action_of}
-
-abbrev either : Bool → Bool → Bool
-either true b = true
-either false b = b
-
--- whether k is one of the keys, as a test that computes
-abbrev pub is_key : List ℕ → ℕ → Bool
-is_key [] k = false
-is_key (x ∷ xs) k = either (eqb k x) (is_key xs k)
-
-left : (a b : Bool) → a ≡ true → T (either a b)
-left a b e = subst (λ x. T (either x b)) (sym e) tt
-
-right : (a b : Bool) → T b → T (either a b)
-right true b t = tt
-right false b t = t
-
-pub keyed : (ks : List ℕ) (k : ℕ) → OneOf ks k → T (is_key ks k)
-keyed [] k h = h
-keyed (x ∷ []) k h = left (eqb k x) false (eq-eqb k x h)
-keyed (x ∷ y ∷ ys) k h = ⊎_elim (λ e. left (eqb k x) _ (eq-eqb k x e)) (λ g. right (eqb k x) _ (keyed (y ∷ ys) k g)) h
-
-abbrev pub tag : Mark → ℕ
-tag m = tag_of M.the_type m
 
 module _ (at next f1 s : ℕ) where
   pub ranged-label : leb 1 f1 && leb f1 s ≡ true → ranged_of is_lB at next f1 s ≡ At next
@@ -87,21 +59,21 @@ module _ (at next f1 s : ℕ) {m : Mark} where
   formals-many e h = as-procedure e (ranged-many at next f1 s h)
 
 -- a mark that is neither LB nor PR
-pub others-fit : (at next f1 s : ℕ) (m : Mark) → OneOf (0 ∷ 1 ∷ 4 ∷ 5 ∷ 6 ∷ 7 ∷ 8 ∷ 9 ∷ 10 ∷ 11 ∷ 12 ∷ []) (tag m) → At next ≡ ranged_of (decl_mark_of m) at next f1 s
+pub others-fit : (at next f1 s : ℕ) (m : Mark) → (m ≡ LB → ⊥) → (m ≡ PR → ⊥) → At next ≡ ranged_of (decl_mark_of m) at next f1 s
 unfolding ranged_of decl_mark_of
-others-fit at next f1 s BK h = refl
-others-fit at next f1 s VR h = refl
-others-fit at next f1 s LB h = absurd (keyed (0 ∷ 1 ∷ 4 ∷ 5 ∷ 6 ∷ 7 ∷ 8 ∷ 9 ∷ 10 ∷ 11 ∷ 12 ∷ []) 2 h)
-others-fit at next f1 s PR h = absurd (keyed (0 ∷ 1 ∷ 4 ∷ 5 ∷ 6 ∷ 7 ∷ 8 ∷ 9 ∷ 10 ∷ 11 ∷ 12 ∷ []) 3 h)
-others-fit at next f1 s FM h = refl
-others-fit at next f1 s CL h = refl
-others-fit at next f1 s GO h = refl
-others-fit at next f1 s IF h = refl
-others-fit at next f1 s KN h = refl
-others-fit at next f1 s AR h = refl
-others-fit at next f1 s AD h = refl
-others-fit at next f1 s RM h = refl
-others-fit at next f1 s QY h = refl
+others-fit at next f1 s BK h g = refl
+others-fit at next f1 s VR h g = refl
+others-fit at next f1 s LB h g = absurd (h refl)
+others-fit at next f1 s PR h g = absurd (g refl)
+others-fit at next f1 s FM h g = refl
+others-fit at next f1 s CL h g = refl
+others-fit at next f1 s GO h g = refl
+others-fit at next f1 s IF h g = refl
+others-fit at next f1 s KN h g = refl
+others-fit at next f1 s AR h g = refl
+others-fit at next f1 s AD h g = refl
+others-fit at next f1 s RM h g = refl
+others-fit at next f1 s QY h g = refl
 
 module _ (o f1 at : ℕ) (ws : List ℕ) where
   pub action-few : f1 ≤ 32 → action_of is_cL o f1 at ws ≡ forget (fields o f1 at ws)
@@ -143,18 +115,18 @@ module _ (o f1 at : ℕ) (ws : List ℕ) {m : Mark} where
   operation-none e h = as-arithmetic e (action-unknown o f1 at ws h)
 
 -- a mark that is neither CL nor AR
-pub others-pass : (o f1 at : ℕ) (ws : List ℕ) (m : Mark) → OneOf (0 ∷ 1 ∷ 2 ∷ 3 ∷ 4 ∷ 6 ∷ 7 ∷ 8 ∷ 10 ∷ 11 ∷ 12 ∷ []) (tag m) → At at ≡ action_of (stmt_mark_of m) o f1 at ws
+pub others-pass : (o f1 at : ℕ) (ws : List ℕ) (m : Mark) → (m ≡ CL → ⊥) → (m ≡ AR → ⊥) → At at ≡ action_of (stmt_mark_of m) o f1 at ws
 unfolding action_of stmt_mark_of
-others-pass o f1 at ws BK h = refl
-others-pass o f1 at ws VR h = refl
-others-pass o f1 at ws LB h = refl
-others-pass o f1 at ws PR h = refl
-others-pass o f1 at ws FM h = refl
-others-pass o f1 at ws CL h = absurd (keyed (0 ∷ 1 ∷ 2 ∷ 3 ∷ 4 ∷ 6 ∷ 7 ∷ 8 ∷ 10 ∷ 11 ∷ 12 ∷ []) 5 h)
-others-pass o f1 at ws GO h = refl
-others-pass o f1 at ws IF h = refl
-others-pass o f1 at ws KN h = refl
-others-pass o f1 at ws AR h = absurd (keyed (0 ∷ 1 ∷ 2 ∷ 3 ∷ 4 ∷ 6 ∷ 7 ∷ 8 ∷ 10 ∷ 11 ∷ 12 ∷ []) 9 h)
-others-pass o f1 at ws AD h = refl
-others-pass o f1 at ws RM h = refl
-others-pass o f1 at ws QY h = refl
+others-pass o f1 at ws BK h g = refl
+others-pass o f1 at ws VR h g = refl
+others-pass o f1 at ws LB h g = refl
+others-pass o f1 at ws PR h g = refl
+others-pass o f1 at ws FM h g = refl
+others-pass o f1 at ws CL h g = absurd (h refl)
+others-pass o f1 at ws GO h g = refl
+others-pass o f1 at ws IF h g = refl
+others-pass o f1 at ws KN h g = refl
+others-pass o f1 at ws AR h g = absurd (g refl)
+others-pass o f1 at ws AD h g = refl
+others-pass o f1 at ws RM h g = refl
+others-pass o f1 at ws QY h g = refl

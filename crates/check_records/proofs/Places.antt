@@ -1,13 +1,13 @@
 -- The record at an offset, at each place: the cases of `recordAt`.
 -- Assumes nothing.
 use mathlib.Core.Path.{◌≡◌, sym, ◌∙◌, ap}
-use mathlib.Core.Bool.{Bool, true, false}
+use mathlib.Core.Bool.{Bool, false}
 use mathlib.Core.List.{List}
 use Prim.Native.Nat.{ℕ, ◌+◌, ◌*◌, ◌<◌, ◌≤◌}
 use native.Mathlib.Omega.{arith}
 use lib.Dec.{leb}
 use lib.ListN.{length, get_or}
-use borrow.Author.Tests.{leb-true, leb-false}
+use borrow.Author.Tests.{leb-false}
 use Rattle.language.specs.Encoding.{two}
 use Rattle.language.specs.Structure.{Row, block_marks, formal_marks, decl_marks, stmt_marks, take-record}
 use Rattle.language.specs.declared.Refusal.TheVariants.{PastTheEnd, MarkMisplaced}
@@ -89,8 +89,5 @@ module _ (p : Place) (bs : List ℕ) (at : ℕ) (h : at + 2 ≤ length bs) {w : 
 
 -- and by its test whether a mark is there
 module _ (bs : List ℕ) (at : ℕ) {b : Bool} (e : b ≡ leb (at + 2) (length bs)) where
-  pub present : b ≡ true → at + 2 ≤ length bs
-  present t = leb-true (at + 2) (length bs) (sym e ∙ t)
-
   pub absent : (p : Place) → b ≡ false → Refused PastTheEnd at ≡ record_at p bs at
   absent p t = let h = leb-false (at + 2) (length bs) (sym e ∙ t) in sym (at_none bs at p (omega arith))
