@@ -1,7 +1,7 @@
 -- What the first cells of the activations that declare a statement's names give, by any way of finding names that has these: a name's cell, activation
 -- and target, and from these what the statement comes to.
 use Rattle.std.specs.Prelude.{ℕ, ◌+◌, true, false, List, ◌≡◌, ℤ, pos, get_or, set}
-use Rattle.std.proofs.Common.{arith, sym, ap, ◌∙◌}
+use Rattle.std.proofs.Common.{sym, ap, ◌∙◌}
 use Rattle.language.specs.Basics.{eq_z}
 use Rattle.language.specs.Encoding.{signed}
 use Rattle.language.specs.Machine.{compute}

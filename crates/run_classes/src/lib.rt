@@ -1,6 +1,8 @@
 // The statements in classes: those of a class have as many names at most, and a function of their own that is handed the first cells of the activations
 // that declare these. The statement at a place is done as far as cells go; where the run goes on is the answer. A call's arguments are not handed on
 // yet.
+#![tactic(auto)]
+
 ghost use Rattle.std.specs.Prelude.{◌≡◌, ℕ, ◌<◌, get_or};
 ghost use Rattle.run_moves.specs.Acting.{scene_by, acting, op_of};
 ghost use Rattle.steps.specs.Finding.{by_first};

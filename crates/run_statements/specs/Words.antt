@@ -14,7 +14,7 @@ use Rattle.run_moves.specs.Effects.{handed_word}
 use Rattle.resolved.specs.Layout.{activation_in, held_from, cell_in, lead_in}
 
 pub read_back : (z : ℤ) → mag z < 2147483648 → to_z w32 (of_z w32 z) ≡ z
-read_back z h = to_z-of_z (record { sfits = h })
+read_back z h = to_z-of_z {w = w32} (record { sfits = h })
 
 pub read-value : (ws : List ℤ) {c d : ℕ} → mag (get_or ws c (pos 0)) < 2147483648 → c ≡ d → to_z w32 (of_z w32 (get_or ws c (pos 0))) ≡ get_or ws d (pos 0)
 read-value ws {c} h e = read_back (get_or ws c (pos 0)) h ∙ ap (λ (k : ℕ). get_or ws k (pos 0)) e

@@ -1,4 +1,6 @@
 // The parts of statements that are the same for every engine, once names are found.
+#![tactic(auto)]
+
 ghost use Rattle.std.specs.Prelude.{◌≡◌, ◌+◌, ◌<◌, ◌≤◌, get_or, set};
 ghost use Rattle.language.specs.Encoding.{signed};
 ghost use Rattle.run_statements.specs.Pieces.{block_move, move_after};
@@ -24,6 +26,7 @@ pub fn constant(code: &[u32; 4096], cells: &mut [i32; 8224], target: usize, at: 
 }
 
 // AR, with what the computation comes to.
+#[tactic(auto, unfolding(crate::specs::Pieces::move_after))]
 pub fn computed(effect: Effect, at: usize) -> Move
     requires { at + 5 ≤ 4096 }
     ensures { result ≡ move_after effect (at + 5) }

@@ -73,6 +73,7 @@ pub fn query(
 }
 
 // The step that asked comes to this.
+#[tactic(auto, unfolding(crate::specs::Answers::turn_after))]
 pub fn after(here: Registers, place: usize, change: Change) -> Turn
     ensures { result ≡ turn_after here place change }
 {

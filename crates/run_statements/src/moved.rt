@@ -16,6 +16,7 @@ pub enum Moved {
     Stop(Stop),
 }
 
+#[tactic(auto, unfolding(crate::specs::Moved::moved_by))]
 pub fn came_to(done: Move) -> Moved
     ensures { result ≡ moved_by done }
 {

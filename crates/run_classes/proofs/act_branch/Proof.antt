@@ -35,7 +35,7 @@ op : (o : tie.After-operation_of) (n : ℕ) → o.operation_of.result ≡ n → 
 op o = op-at o.before.code_at.ensures.0 o.operation_of.ensures.0
 
 other : (c : tie.In_default) → op_at (start_of c.before) ≡ branch-formal-op
-other c = let o = c.before in branch-left o.before.code_at.ensures.0 o.operation_of.ensures.0 (start_of o).requires.1 c.in-4.rest
+other c = let o = c.before in branch-left o.before.code_at.ensures.0 o.operation_of.ensures.0 (start_of o).requires.1 c.in_default.in_default-own.rest
 
 ready : (s : tie.Start) (p : Op) → op_at s ≡ p → ReadyFor s p
 ready s p e = subst (λ (x : Op). ReadyFor s x) e s.requires.2
@@ -45,7 +45,7 @@ leads s p e first_of l = subst (λ (x : Op). Found s first_of x) e l
 
 do_branch-requires : tie.Need-do_branch-requires
 unfolding operations
-do_branch-requires c κs = ready (start_of c.before) branch-op (op c.before 4 c.in-4.keys1)
+do_branch-requires c κs = ready (start_of c.before) branch-op (op c.before 4 c.in-4.is)
 
 do_branch_formal-requires : tie.Need-do_branch_formal-requires
 unfolding operations
@@ -57,7 +57,7 @@ returns c =
     λ first_of activations live l.
     let m = c.before in
     let s = start_of m.before in
-    let e = op m.before 4 m.in-4.keys1 in
+    let e = op m.before 4 m.in-4.is in
     let g = leads s branch-op e first_of l in
     did (way s first_of) (scene s activations live) branch-op e
     (branch-did (way s first_of) (scene s activations live) (c.do_branch.ensures first_of g.0 g.1))

@@ -37,7 +37,7 @@ op : (o : tie.After-operation_of) (n : ℕ) → o.operation_of.result ≡ n → 
 op o = op-at o.before.code_at.ensures.0 o.operation_of.ensures.0
 
 other : (c : tie.In_default) → op_at (start_of c.before) ≡ call-formal-op
-other c = let o = c.before in call-left o.before.code_at.ensures.0 o.operation_of.ensures.0 (start_of o).requires.1 c.in-5.rest
+other c = let o = c.before in call-left o.before.code_at.ensures.0 o.operation_of.ensures.0 (start_of o).requires.1 c.in_default.in_default-own.rest
 
 ready : (s : tie.Start) (p : Op) → op_at s ≡ p → ReadyFor s p
 ready s p e = subst (λ (x : Op). ReadyFor s x) e s.requires.2
@@ -47,32 +47,32 @@ leads s p e first_of l = subst (λ (x : Op). Found s first_of x) e l
 
 do_goto-requires : tie.Need-do_goto-requires
 unfolding operations
-do_goto-requires c κs = (ready (start_of c.before) goto-op (op c.before 5 c.in-5.keys1)).0
+do_goto-requires c κs = (ready (start_of c.before) goto-op (op c.before 5 c.in-5.is)).0
 
 do_block-requires : tie.Need-do_block-requires
 unfolding operations
-do_block-requires c κs = ready (start_of c.before) block-op (op c.before 6 c.in-5.keys2)
+do_block-requires c κs = ready (start_of c.before) block-op (op c.before 6 c.in-6.is)
 
 do_call-requires : tie.Need-do_call-requires
 unfolding operations
-do_call-requires c κs = (ready (start_of c.before) call-op (op c.before 7 c.in-5.keys3)).0
+do_call-requires c κs = (ready (start_of c.before) call-op (op c.before 7 c.in-7.is)).0
 
 do_constant_formal-requires : tie.Need-do_constant_formal-requires
 unfolding operations
 do_constant_formal-requires c κs =
     let m = c.before in
-    ready (start_of m.before) constant-formal-op (op m.before 11 m.in-5.keys4)
+    ready (start_of m.before) constant-formal-op (op m.before 11 m.in-11.is)
 
 do_goto_formal-requires : tie.Need-do_goto_formal-requires
 unfolding operations
 do_goto_formal-requires c κs =
-    let m = c.before in
-    ready (start_of m.before) goto-formal-op (op m.before 14 m.in-5.keys5)
+    let m = c in
+    ready (start_of m.before) goto-formal-op (op m.before 14 m.in-14.is)
 
 do_call_formal-requires : tie.Need-do_call_formal-requires
 unfolding operations
 do_call_formal-requires c κs =
-    let m = c.before in
+    let m = c in
     ready (start_of m.before) call-formal-op (other m)
 
 returns : tie.Need-returns-in-5
@@ -81,7 +81,7 @@ returns c =
     λ first_of l.
     let m = c.before in
     let s = start_of m.before in
-    let e = op m.before 5 m.in-5.keys1 in
+    let e = op m.before 5 m.in-5.is in
     let g = leads s goto-op e first_of l in
     did (way s first_of) (scene s) goto-op e
     (goto-did (way s first_of) (scene s)
@@ -93,7 +93,7 @@ returns-2 c =
     λ first_of l.
     let m = c.before in
     let s = start_of m.before in
-    let e = op m.before 6 m.in-5.keys2 in
+    let e = op m.before 6 m.in-6.is in
     did (way s first_of) (scene s) block-op e
     (block-did (way s first_of) (scene s) c.do_block.ensures)
 
@@ -103,7 +103,7 @@ returns-3 c =
     λ first_of l.
     let m = c.before in
     let s = start_of m.before in
-    let e = op m.before 7 m.in-5.keys3 in
+    let e = op m.before 7 m.in-7.is in
     let g = leads s call-op e first_of l in
     let w = word_after s.args.code.now s.args.at 1 in
     let d = (ready s call-op e).1.is in
@@ -117,7 +117,7 @@ returns-4 c =
     λ first_of l.
     let m = c.before.before in
     let s = start_of m.before in
-    let e = op m.before 11 m.in-5.keys4 in
+    let e = op m.before 11 m.in-11.is in
     let g = leads s constant-formal-op e first_of l in
     did (way s first_of) (scene s) constant-formal-op e
     (constant-did (way s first_of) (scene s) (c.do_constant_formal.ensures first_of g))
@@ -126,9 +126,9 @@ returns-5 : tie.Need-returns-in-14
 unfolding operations happens
 returns-5 c =
     λ first_of l.
-    let m = c.before.before in
+    let m = c.before in
     let s = start_of m.before in
-    let e = op m.before 14 m.in-5.keys5 in
+    let e = op m.before 14 m.in-14.is in
     let g = leads s goto-formal-op e first_of l in
     did (way s first_of) (scene s) goto-formal-op e
     (goto-did (way s first_of) (scene s) (c.do_goto_formal.ensures first_of g))
@@ -137,7 +137,7 @@ returns-6 : tie.Need-returns-in_default
 unfolding operations happens
 returns-6 c =
     λ first_of l.
-    let m = c.before.before in
+    let m = c.before in
     let s = start_of m.before in
     let e = other m in
     let g = leads s call-formal-op e first_of l in

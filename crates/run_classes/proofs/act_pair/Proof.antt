@@ -36,7 +36,7 @@ op : (o : tie.After-operation_of) (n : ℕ) → o.operation_of.result ≡ n → 
 op o = op-at o.before.code_at.ensures.0 o.operation_of.ensures.0
 
 other : (c : tie.In_default) → op_at (start_of c.before) ≡ unpair-op
-other c = let o = c.before in unpair-left o.before.code_at.ensures.0 o.operation_of.ensures.0 (start_of o).requires.1 c.in-8.rest
+other c = let o = c.before in unpair-left o.before.code_at.ensures.0 o.operation_of.ensures.0 (start_of o).requires.1 c.in_default.in_default-own.rest
 
 ready : (s : tie.Start) (p : Op) → op_at s ≡ p → ReadyFor s p
 ready s p e = subst (λ (x : Op). ReadyFor s x) e s.requires.2
@@ -46,7 +46,7 @@ leads s p e first_of l = subst (λ (x : Op). Found s first_of x) e l
 
 do_change-requires : tie.Need-do_change-requires
 unfolding operations
-do_change-requires c κs = ready (start_of c.before) pair-op (op c.before 8 c.in-8.keys1)
+do_change-requires c κs = ready (start_of c.before) pair-op (op c.before 8 c.in-8.is)
 
 do_change-requires-2 : tie.Need-do_change-requires-in_default
 unfolding operations
@@ -58,7 +58,7 @@ returns c =
     λ first_of activations live l.
     let m = c.before in
     let s = start_of m.before in
-    let e = op m.before 8 m.in-8.keys1 in
+    let e = op m.before 8 m.in-8.is in
     let g = leads s pair-op e first_of l in
     did (way s first_of) (scene s activations live) pair-op e (change-did (way s first_of) (scene s activations live) Add (c.do_change.ensures first_of g.0 g.1))
 

@@ -30,7 +30,7 @@ returns-2 c =
     let f = c.before.before in
     let b = test_of f in
     let s = start_of b in
-    goes_at s.args.code.now s.args.cells.now s.args.at b.before.before.cell.ensures.0 (not-zero _ b.before.t11-1.given b.if-cells-cell-eq0.left)
+    goes_at s.args.code.now s.args.cells.now s.args.at b.before.before.cell.ensures.0 (not-zero _ b.before.t11-1.given b.if-cells-cell-eq0.false)
     (goto-own s.args.code.now s.args.cells.now s.args.at c.do_goto.ensures (label f (is-direct _ (sym f.formal_of.ensures.0 ∙ c.before.if-formal_of-eq0.true))))
 
 do_goto_formal-requires : tie.Need-do_goto_formal-requires
@@ -42,7 +42,7 @@ returns-3 : tie.Need-returns
 returns-3 c =
     let b = test_of c.before.before in
     let s = start_of b in
-    goes_at s.args.code.now s.args.cells.now s.args.at b.before.before.cell.ensures.0 (not-zero _ b.before.t11-1.given b.if-cells-cell-eq0.left)
+    goes_at s.args.code.now s.args.cells.now s.args.at b.before.before.cell.ensures.0 (not-zero _ b.before.t11-1.given b.if-cells-cell-eq0.false)
     c.do_goto_formal.ensures
 
 pub do_branch_formal_spec : {M : Type 1} → statement M

@@ -3,7 +3,6 @@ use Prim.Native.Nat.{ℕ, ◌*◌, ◌≤◌}
 use mathlib.Core.Bool.{Bool}
 use mathlib.Core.Path.{◌≡◌, sym, ap, ◌∙◌, subst}
 use native.Mathlib.Omega.{arith}
-use borrow.Author.Tests.{not-true, not-false}
 use lib.ListN.{get_or}
 use Rattle.run_moves.specs.Acting.{Finding, Scene, arguments_agree}
 use Rattle.run_moves.specs.Acting.{scene_by}
@@ -70,7 +69,7 @@ agrees k e first_of =
     let s = start_of (lead_of m) in
     number_same (way s first_of) (scene s) (lead_of m).lead_of-body.result (sym (read m) ∙ k.before.if-formals_of-count.false ∙ n) ∙ sym (rw n at k.kinds_agree.ensures) ∙ e
 
-sub-kinds_agree : tie.Need-overflow_sub-kinds_agree
+sub-kinds_agree : tie.Need-overflow_sub-body
 sub-kinds_agree c = let m = c.before in omega (arith, formals (lead_of m), read m, c.if-formals_of-count.false)
 
 returns-2 : tie.Need-returns-then-not-kinds_agree
@@ -79,7 +78,7 @@ returns-2 c =
     let k = c.before in
     let b = lead_of k.before.before in
     let s = start_of b in
-    (call-refused (way s first_of) (scene s) (body_is b first_of p) (agrees k (not-true _ c.if-not-kinds_agree.true) first_of)).0
+    (call-refused (way s first_of) (scene s) (body_is b first_of p) (agrees k c.if-not-kinds_agree.true first_of)).0
 
 returns-3 : tie.Need-returns
 returns-3 c =
@@ -90,7 +89,7 @@ returns-3 c =
     let b = lead_of k.before.before in
     let s = start_of b in
     call-formal-move (way s first_of) (scene s) (home-is b first_of p l.cell_of.ensures.0 a.activation_of.ensures) (body_is b first_of p)
-    (agrees k (not-false _ l.before.if-not-kinds_agree.false) first_of) c.enter_body.ensures
+    (agrees k l.before.if-not-kinds_agree.false first_of) c.enter_body.ensures
 
 pub do_call_formal_spec : {M : Type 1} → statement M
 do_call_formal_spec =

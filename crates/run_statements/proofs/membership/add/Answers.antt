@@ -1,0 +1,17 @@
+-- `add` meets its contract.
+use lib.IntN.{ℤ}
+use Rattle.language.specs.Table.{added}
+use Rattle.run_moves.specs.Acting.{answer}
+use Rattle.table_pairs.specs.Outcomes.{table_of}
+use Rattle.run_statements.specs.Words.{read-value}
+use Rattle.run_statements.specs.Answers.{changed-by}
+use mathlib.Core.Path.{refl}
+use Rattle.run_statements.proofs.membership.add.Goals as goal
+
+pub returns : goal.returns
+unfolding answer
+returns c =
+    let ws = c.args.cells.now in
+    let d = changed-by (λ (a b : ℤ). added c.args.limit a b (table_of c.args.table.now c.args.pairs)) c.args.table.now (read-value ws c.of-1.given refl) (read-value ws c.who-1.given refl)
+    c.add_pair.ensures.value c.add_pair.ensures.table_after in
+    record { value = d.0; table_after = d.1; keeps_list = c.add_pair.ensures.keeps_list }
