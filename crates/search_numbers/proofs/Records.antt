@@ -24,7 +24,6 @@ use Rattle.resolve_fields.proofs.Taking.{take-grows}
 use Rattle.resolve_fields.proofs.Records as records
 use Rattle.resolve_fields.specs.Walk.{formals_words, block_words, words_layout}
 use Rattle.search_numbers.specs.NumberFields.{numbered_action}
-use Rattle.search_numbers.specs.Layouts.{numbered_layout}
 use Rattle.search_numbers.specs.Around.{number_at, Around, Ahead}
 use Rattle.search_numbers.specs.Numbering.{Noted}
 use Rattle.search_numbers.proofs.Words.{number-nowhere, number-there, numbers-there}

@@ -1,5 +1,7 @@
 // The number of the name in each field of a script, laid out as the resolved script is. A name's number goes by its word there and by the places of the
 // blocks around it. All is safe on any bytes.
+#![tactic(auto)]
+
 ghost use Rattle.std.specs.Prelude.{◌≡◌, ◌<◌, length, replicate};
 ghost use Rattle.laws.specs.Fields.{field_at};
 ghost use Rattle.resolve_fields.specs.Taking.{taken};
