@@ -13,7 +13,7 @@ fn main() {
     for (asked, name) in [("CARGO_FEATURE_ENROL", "enrol"), ("CARGO_FEATURE_MEASURE", "measure")] {
         if env::var_os(asked).is_some() {
             let library = folder.join(format!("lib{name}.a"));
-            assert!(library.is_file(), "no {}: `rt staticlib {name}` writes it", library.display());
+            assert!(library.is_file(), "no {}: `tools/staticlib {name}` writes it", library.display());
             println!("cargo:rerun-if-changed={}", library.display());
             println!("cargo:rustc-link-lib=static={name}");
         }
