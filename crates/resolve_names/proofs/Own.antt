@@ -14,7 +14,7 @@ use Rattle.laws.specs.Lookup.{zip-append}
 use Rattle.grammar.specs.Rules.{FormedFormals, FormedBlock, FormedDecl, FormedDecls, FormedStmts}
 use Rattle.coordinates.specs.Enclosure.{enclosed, Enclosure, names_of}
 use Rattle.resolved.specs.Resolved.{packed, decl_target, decl_kind_field, formal_words, decl_words, own_words, visible_words, stmt_place}
-use Rattle.resolved.specs.NameWords.{kind-small}
+use Rattle.resolved.proofs.NameWords.{kind-small}
 use Rattle.laws.specs.Fields.{field_at, FieldsStand, fields-first, fields-after, fields-third}
 use Rattle.check_extents.specs.Items.{declared, stated, items_fields}
 use Rattle.check_extents.proofs.Inside.{decl-items, stmt-items}

@@ -13,7 +13,7 @@ use Rattle.laws.specs.Tests.{none≢some, some_inj}
 use Rattle.laws.specs.Lists.{get_elem-in}
 use Rattle.grammar.specs.Rules.{FormedStmt, FormedStmts}
 use Rattle.resolved.specs.Resolved.{end_place, stmt_place}
-use Rattle.resolved.specs.Places.{stmt-place, place-past}
+use Rattle.resolved.proofs.Places.{stmt-place, place-past}
 use Rattle.check_extents.specs.Items.{stated, item_fields}
 use Rattle.resolve_names.specs.Declared.{starts_of, Stated}
 
