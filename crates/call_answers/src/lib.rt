@@ -1,4 +1,6 @@
 // An answer as its struct, in runs and refusals alike, and its words for the C interface.
+#![tactic(auto)]
+
 ghost use Rattle.std.specs.Prelude.{◌≡◌, ◌≤◌};
 ghost use Rattle.language.specs.Numbers.{answer_words};
 ghost use Rattle.call_answers.specs.Answers.{refused_answer, ran_answer};

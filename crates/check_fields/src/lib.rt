@@ -1,4 +1,6 @@
 // The 16-bit fields of a script by their offsets, and the reader that hands them out.
+#![tactic(auto)]
+
 ghost use Rattle.std.specs.Prelude.{◌≡◌, ◌^◌, ◌<◌};
 ghost use Rattle.laws.specs.Fields.{field_at};
 

@@ -1,6 +1,8 @@
 // The table of visible names: one array of entries, nearest declaration first, and below them, in the same array, chains of the entries
 // whose names have the same remainder by 256. A use is found in a step or two, and in at most 512 where that many names share a remainder.
 // An entry is a name of 16 bits and, times 65536, a number below 2^48 that the walk over the script keeps of it.
+#![tactic(auto)]
+
 ghost use Rattle.std.specs.Prelude.{◌≡◌, ◌+◌, ◌%◌, ◌^◌, ◌<◌, ◌≤◌, max, length, get_or, drop};
 ghost use Rattle.check_symbols.specs.Entries.{found_in, Near, Seeking, entry_from};
 ghost use Rattle.check_symbols.specs.Chains.{Chained, Rechained};

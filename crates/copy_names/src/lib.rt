@@ -1,5 +1,7 @@
 // The activation and the cell of a new name, from the name alone: each activation's first new name is noted, and these do not fall. The innermost
 // activation is tried first and the program's next, since a name is most often one of theirs; the others are searched by halves.
+#![tactic(auto)]
+
 ghost use Rattle.std.specs.Prelude.{◌≡◌, ◌+◌, ◌-◌, ◌≤◌, ◌<◌, ◌^◌, get_or};
 ghost use Rattle.copy_names.specs.Owner.{owner_in, cell_in, Sorted, Findable, Innermost};
 

@@ -1,1 +1,2 @@
 // Definitions and theorems only (specs/): the search along the callers' chain.
+#![tactic(auto)]

@@ -1,1 +1,2 @@
 // Theorems about the frame machine alone: see specs/.
+#![tactic(auto)]

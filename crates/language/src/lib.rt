@@ -1,4 +1,6 @@
 // The types of an answer (document 01, "Causes and numbers").
+#![tactic(auto)]
+
 ghost use Rattle.std.specs.Prelude.{◌≡◌};
 ghost use Rattle.language.specs.Numbers.{stop_number, refusal_number, end_number, cause_number};
 

@@ -1,4 +1,6 @@
 // How words are made up: a name's word and a block's first two words in the resolved script, a cell's number, and what a formal's cell holds.
+#![tactic(auto)]
+
 ghost use Rattle.std.specs.Prelude.{◌≡◌, ◌*◌, ◌^◌, ◌<◌, ◌≤◌};
 ghost use Rattle.resolved.specs.Resolved.{packed, position_in, formal_in, kind_in, level_in, target_in};
 ghost use Rattle.resolved.specs.Layout.{operation_in, formals_in, names_in, end_in, first_in, head_from, bounds_from, cell_from, activation_in, held_from, cell_in, lead_in};

@@ -1,4 +1,6 @@
 // Numbers as those of a wider type. A call asks nothing of its caller, where a cast would ask for a bound on what is read.
+#![tactic(auto)]
+
 ghost use Rattle.std.specs.Prelude.{◌≡◌, ◌<◌, ◌^◌};
 
 pub fn from_u8(x: u8) -> usize

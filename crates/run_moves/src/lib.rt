@@ -1,4 +1,6 @@
 // What a statement comes to, and where a run goes on after it: for every engine.
+#![tactic(auto)]
+
 use language::Stop;
 
 // A statement is done, or there is a cause to stop.

@@ -1,4 +1,6 @@
 // Where a run stands between two steps, what a step comes to and how a run has ended: the same for every engine.
+#![tactic(auto)]
+
 ghost use Rattle.std.specs.Prelude.{◌≡◌, ◌<◌, ◌≤◌};
 ghost use Rattle.run_state.specs.Halts.{finished_after, spent_after, stopped_after, named_by};
 

@@ -1,1 +1,2 @@
 // Theorems about the copy-rule machine alone: see specs/.
+#![tactic(auto)]

@@ -1,4 +1,6 @@
 // Where a name lies, by the search: from an activation whose block does not introduce the name's number it goes on where that activation's record says.
+#![tactic(auto)]
+
 ghost use Rattle.std.specs.Prelude.{◌≡◌, ◌*◌, ◌<◌, ◌≤◌};
 ghost use Rattle.search_names.specs.Seeking.{sought, first_at, Falls};
 

@@ -1,1 +1,2 @@
 // Definitions and theorems alone: see specs.
+#![tactic(auto)]

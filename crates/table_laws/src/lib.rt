@@ -1,1 +1,2 @@
 // Laws of the membership table and of its list of groups: see specs/.
+#![tactic(auto)]

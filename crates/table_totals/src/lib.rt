@@ -1,1 +1,2 @@
 // The laws of sums over the places of a list, with no code.
+#![tactic(auto)]
