@@ -20,7 +20,6 @@ use Rattle.resolve_fields.proofs.Taking.{covers-gives}
 use Rattle.resolve_fields.proofs.Records as records
 use Rattle.resolve_fields.specs.Walk.{formals_words, block_words, words_layout}
 use Rattle.copy_fields.specs.NameFields.{named_action}
-use Rattle.copy_fields.specs.Layouts.{named_layout}
 use Rattle.copy_fields.specs.Naming.{crossed, Noted}
 use Rattle.copy_fields.proofs.Crossing.{cross-grows}
 

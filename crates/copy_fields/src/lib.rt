@@ -1,5 +1,7 @@
 // The word of the name in each field of a script, taken from the resolved script, which has it at the same place in all records but IF. All is
 // safe on any bytes.
+#![tactic(auto)]
+
 ghost use Rattle.std.specs.Prelude.{◌≡◌, ◌+◌, ◌<◌, length, replicate};
 ghost use Rattle.laws.specs.Fields.{field_at};
 ghost use Rattle.resolve_fields.specs.Taking.{word_there, taken};
