@@ -1,4 +1,6 @@
 // The statements that leave the membership table alone, a function for each, read from the copy of the innermost activation.
+#![tactic(auto)]
+
 mod arms;
 mod calling;
 mod fields;
