@@ -1,5 +1,7 @@
 // Entering, leaving and jumping: the activations' records and the display are put right. Nothing is copied aside: the display is written
 // along the links of the activation that becomes the innermost one, until an entry fits.
+#![tactic(auto)]
+
 ghost use Rattle.std.specs.Prelude.{◌≡◌, suc, ◌+◌, ◌<◌, length, get_or, set};
 ghost use Rattle.resolved.specs.Resolved.{level_in};
 ghost use Rattle.arrays.specs.Displays.{ShowsFrom};
