@@ -1,4 +1,6 @@
 // Entering a block, of the copying engine: its text is copied anew into the area, and no copy is used twice.
+#![tactic(auto)]
+
 ghost use Rattle.std.specs.Prelude.{◌+◌, ◌<◌, ◌≤◌};
 ghost use Rattle.copy_entry.specs.Anew.{Enterable, Noted, NamesNoted, AnewIn};
 
