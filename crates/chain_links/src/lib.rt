@@ -1,4 +1,6 @@
 // The static chain: names found by following the links of the activation records, and another activation becoming the innermost one.
+#![tactic(auto)]
+
 ghost use Rattle.std.specs.Prelude.{◌≡◌, ◌+◌, ◌*◌, ◌-◌, ◌<◌, ◌≤◌, get_or, set};
 ghost use Rattle.chain_records.specs.Records.{at};
 ghost use Rattle.resolved.specs.Resolved.{level_in};

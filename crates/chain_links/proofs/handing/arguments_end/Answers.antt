@@ -1,16 +1,9 @@
--- `arguments_end` meets its contract.
-use Prim.Native.Nat.{ℕ, ◌+◌}
-use mathlib.Core.List.{List}
-use mathlib.Core.Path.{◌≡◌, sym, ap, ◌∙◌}
-use borrow.Author.Rules.{rules}
-use borrow.Author.Tests.{eq-eqb, ne_eqb}
-use lib.ListN.{get_or}
+-- The next statement is a BK, or has a count of arguments.
+use Rattle.std.proofs.Common.{◌≡◌, ℕ, ◌+◌, List, get_or, sym, ap, ◌∙◌, rules, eq-eqb, ne_eqb}
 use Rattle.resolved.specs.Layout.{operation_in}
 use Rattle.chain_links.specs.Finding.{arguments_end}
-use Rattle.chain_links.proofs.handing.arguments_end.Statement.{statement}
-use Rattle.chain_links.proofs.handing.arguments_end.Tie as tie
+use Rattle.chain_links.proofs.handing.arguments_end.Goals as goal
 
--- the next statement is a BK, or has a count of arguments
 none-there : (code : List ℕ) (at w o : ℕ) → w ≡ get_or code at 0 → o ≡ operation_in w → o ≡ 6 → 3 ≡ arguments_end code at
 unfolding arguments_end
 none-there code at w o e p six =
@@ -21,7 +14,8 @@ unfolding arguments_end
 some-there code at w o n e p d m =
     rw (m, arguments_end, ne_eqb (operation_in (get_or code at 0)) 6 (λ q. d (p ∙ ap operation_in e ∙ q)))
 
-pub arguments_end_spec : {M : Type 1} → statement M
-arguments_end_spec =
-    tie.close (tie.spec (λ c κs. search rules) (λ c κs. search rules) (λ c. search (rules, none-there)) (λ c. search rules) (λ c κs. search rules) (λ c. search rules)
-    (λ c. search (rules, some-there)))
+pub returns-then-operation_of-eq-BLOCK : goal.returns-then-operation_of-eq-BLOCK
+returns-then-operation_of-eq-BLOCK c = search (rules, none-there)
+
+pub returns : goal.returns
+returns c = search (rules, some-there)
