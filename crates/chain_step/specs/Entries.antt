@@ -1,5 +1,5 @@
 -- Where the next statement enters a block, its arguments can be handed on, and nothing else becomes of the words (`enters-handing`).
-use Rattle.std.specs.Prelude.{ℕ, zero, suc, ◌+◌, ◌-◌, ◌*◌, ◌≤◌, ◌<◌, true, false, List, ◌∷◌, ◌≡◌, refl, leb, ℤ, pos, get_or}
+use Rattle.std.specs.Prelude.{ℕ, zero, suc, ◌+◌, ◌-◌, ◌*◌, ◌≤◌, ◌<◌, true, List, ◌∷◌, ◌≡◌, refl, leb, ℤ, pos, get_or}
 use native.Mathlib.Omega.{arith}
 use Rattle.std.proofs.Math.Bool.{false≢true}
 use Rattle.std.proofs.Math.Path.{sym, ap, subst}

@@ -1,4 +1,6 @@
 // A step of the static-chain engine.
+#![tactic(auto)]
+
 pub use stepped::step;
 pub use turn::went;
 

@@ -1,17 +1,11 @@
--- `only_hops` meets its contract.
-use Prim.Native.Nat.{ℕ, ◌+◌, ◌-◌, ◌≤◌}
-use mathlib.Core.List.{List}
-use mathlib.Core.Path.{◌≡◌, sym, ap, ◌∙◌, subst}
-use borrow.Author.Rules.{rules}
-use lib.ListN.{get_or}
+-- From what is read: the operation, and the name's level.
+use Rattle.std.proofs.Common.{◌≡◌, ℕ, ◌+◌, ◌-◌, ◌≤◌, List, get_or, sym, ap, ◌∙◌, subst, rules}
 use Rattle.resolved.specs.Resolved.{level_in}
 use Rattle.resolved.specs.Layout.{operation_in}
 use Rattle.run_state.specs.declared.Registers.{Registers}
 use Rattle.chain_step.specs.Acted.{only_hops, none-hops, some-hops}
-use Rattle.chain_step.proofs.acted.only_hops.Statement.{statement}
-use Rattle.chain_step.proofs.acted.only_hops.Tie as tie
+use Rattle.chain_step.proofs.acted.only_hops.Goals as goal
 
--- from what is read: the operation, and the name's level
 module _ (code : List ℕ) (here : Registers) (w o : ℕ) (head : w ≡ get_or code here.at 0) (is : o ≡ operation_in w) where
   block : o ≡ 6 → 0 ≡ only_hops code here
   block e = none-hops code here (ap operation_in (sym head) ∙ sym is ∙ e)
@@ -29,7 +23,11 @@ module _ (code : List ℕ) (here : Registers) (w o : ℕ) (head : w ≡ get_or c
     named : here.level - l ≡ only_hops code here
     named = ap (λ n. here.level - n) level-is ∙ some-hops code here no_block
 
-pub only_hops_spec : {M : Type 1} → statement M
-only_hops_spec =
-    tie.close (tie.spec (λ c κs. search rules) (λ c κs. search rules) (λ c. search (rules, block)) (λ c. search rules) (λ c κs. search rules)
-    (λ c κs. search rules) (λ c. search (rules, outer)) (λ c. search (rules, named)))
+pub returns-then-operation_of-eq-BLOCK : goal.returns-then-operation_of-eq-BLOCK
+returns-then-operation_of-eq-BLOCK c = search (rules, block)
+
+pub overflow_sub-result : goal.overflow_sub-result
+overflow_sub-result c = search (rules, outer)
+
+pub returns : goal.returns
+returns c = search (rules, named)
