@@ -18,13 +18,18 @@ const G: u32 = 3;
 // The longest script, in bytes.
 const LONGEST: usize = 2048;
 
-// Says on the standard error why there is no script: what the system calls it, without its number.
+// What the system calls an error, without its number.
+fn without_number(text: &str) -> &str {
+    match text.split_once(" (os error ") {
+        Some((words, _)) => words,
+        None => text,
+    }
+}
+
+// Says on the standard error why there is no script.
 fn explain(rt: &(impl Eprint + AllocGlobal), error: io::Error) -> io::Result<()> {
     let text = format!(in rt.alloc(); "{error}")?;
-    let why = match text.as_str().split_once(" (os error ") {
-        Some((words, _)) => words,
-        None => text.as_str(),
-    };
+    let why = without_number(text.as_str());
     eprintln!(rt; "script.bin is taken as a script of length 0: {why}")
 }
 
