@@ -1,6 +1,6 @@
 -- The looked-up name, found from the innermost activation: `word-is`: its word, read by the activation's record; `leads`: so many links lead to where it is declared.
 use Rattle.std.proofs.Common.{◌≡◌, ℕ, ◌+◌, ◌≤◌, ◌<◌, List, ℤ, get_or, sym, ap, ◌∙◌, arith}
-use Rattle.arrays.specs.Names.{follow}
+use Rattle.arrays.proofs.Names.{follow}
 use Rattle.resolved.specs.Resolved.{level_in}
 use Rattle.chain_records.specs.declared.Activation.{Activation}
 use Rattle.chain_records.specs.Records.{at, hop}

@@ -1,6 +1,6 @@
 -- The links that are followed lead where the lists' do, and no link leads to the innermost activation's own cell.
 use Rattle.std.proofs.Common.{ℕ, ◌*◌, ◌<◌, sym, ap, ◌∙◌, arith, rules}
-use Rattle.arrays.specs.Names.{follow}
+use Rattle.arrays.proofs.Names.{follow}
 use Rattle.chain_links.specs.Records.{as-linked, hop-follows, links_in}
 use Rattle.chain_links.proofs.first_cell.Goals as goal
 

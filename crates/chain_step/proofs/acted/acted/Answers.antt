@@ -1,6 +1,6 @@
 -- By its class, the statement is asked for its names, and does what it does.
 use Rattle.std.proofs.Common.{◌≡◌, ℕ, ◌*◌, ◌<◌, ◌≤◌, List, get_or, ℤ, refl, sym, ap, ◌∙◌, arith, rules}
-use Rattle.arrays.specs.Names.{follow}
+use Rattle.arrays.proofs.Names.{follow}
 use Rattle.chain_records.specs.declared.Activation.{Activation}
 use Rattle.chain_records.specs.Records.{hop}
 use Rattle.run_moves.specs.Acting.{op_of}
