@@ -18,12 +18,12 @@ use Rattle.run_statements.specs.Words.{read_back, handed-is}
 use Rattle.run_statements.specs.Doing.{arguments-end, arguments-next, kept-below}
 use Rattle.steps.specs.Finding.{by_first}
 use Rattle.search_names.specs.Seeking.{first_at}
-use Rattle.search_calls.specs.Passing.{own_at, passer_at, passed, all_passed, passer-declared, passer-formal, Led, Handed, AllHanded}
+use Rattle.search_calls.specs.Passing.{field_own, passer_at, passed, all_passed, passer-declared, passer-formal, Led, Handed, AllHanded}
 use Rattle.search_calls.specs.Reading.{own_read, read-direct, read-formal}
 
 module _ (code numbers blocks froms : List ℕ) (live : ℕ) where
   abbrev own : ℕ → ℕ
-  own place = own_at code numbers blocks froms live place
+  own place = field_own code numbers blocks froms live place
 
   -- one argument
 

@@ -8,7 +8,7 @@ use Rattle.arrays.specs.Found.{held_by}
 use Rattle.run_statements.specs.Words.{read_back, is-direct, is-formal, held-is}
 use Rattle.run_cells.specs.Finding.{Reachable, ThroughFormal}
 use Rattle.search_names.specs.Seeking.{first_at}
-use Rattle.search_calls.specs.Passing.{own_at}
+use Rattle.search_calls.specs.Passing.{field_own}
 
 module _ (code numbers blocks froms : List ℕ) (live place : ℕ) {v f q : ℕ} (read : v ≡ get_or code place 0) (found : f ≡ first_at numbers blocks froms live place) (position : q ≡ position_in v) where
   abbrev first : ℕ
@@ -17,7 +17,7 @@ module _ (code numbers blocks froms : List ℕ) (live place : ℕ) {v f q : ℕ}
   abbrev w : ℕ
   w = get_or code place 0
 
-  pub own_read : f + q ≡ own_at code numbers blocks froms live place
+  pub own_read : f + q ≡ field_own code numbers blocks froms live place
   own_read = ap₂ (λ (m n : ℕ). m + n) found (position ∙ ap position_in read)
 
   -- a formal's word

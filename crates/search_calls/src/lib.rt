@@ -1,4 +1,6 @@
 // CL: the arguments handed on, each procedure with its passer, and where the search goes on from the activation that is entered.
+#![tactic(auto)]
+
 ghost use Rattle.std.specs.Prelude.{◌+◌, ◌<◌, ◌≤◌};
 ghost use Rattle.resolved.specs.Resolved.{target_in};
 ghost use Rattle.resolved.specs.Layout.{lead_in};

@@ -8,7 +8,7 @@ use Rattle.run_moves.specs.Acting.{constant-formal-op, arithmetic-formal-op, bra
 use Rattle.steps.specs.Finding.{by_first, first_by_links}
 use Rattle.run_state.specs.declared.Registers.{Registers}
 use Rattle.run_state.specs.Limits.{goes_to}
-use Rattle.search_calls.specs.Passing.{own_at, handed_on, steered}
+use Rattle.search_calls.specs.Passing.{field_own, handed_on, steered}
 use Rattle.search_moves.specs.Running.{Running}
 use Rattle.run_statements.specs.declared.moved.Moved.{Moved}
 use Rattle.run_statements.specs.Moved.{moved_by}
@@ -42,7 +42,7 @@ module _ (code numbers : List ℕ) (passers blocks froms : List ℕ) (live at : 
   from_by arithmetic-formal-op = live
   from_by branch-formal-op = live
   from_by goto-formal-op = live
-  from_by call-formal-op = get_or passers (own_at code numbers blocks froms live (at + 1)) 0
+  from_by call-formal-op = get_or passers (field_own code numbers blocks froms live (at + 1)) 0
 
   -- the passers after a statement that makes a move: those of a call's arguments are handed on where it enters
   unfoldable pub entered_passers : Op → List ℕ

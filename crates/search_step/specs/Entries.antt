@@ -31,7 +31,7 @@ use Rattle.steps.specs.Finding.{Reaches, first_by_links, reached-by-links}
 use Rattle.run_state.specs.declared.Registers.{Registers}
 use Rattle.run_state.specs.Limits.{limits_by}
 use Rattle.search_names.specs.Seeking.{first_at}
-use Rattle.search_calls.specs.Passing.{own_at, all_passed, handed_on, passer-declared, passer-formal}
+use Rattle.search_calls.specs.Passing.{field_own, all_passed, handed_on, passer-declared, passer-formal}
 use Rattle.search_moves.specs.Running.{Passers, Running}
 use Rattle.search_moves.specs.Steering.{frames_after, HandedOn, steer-block, passed-block, steer-call, steer-formal, passed-call}
 use Rattle.search_moves.specs.Sought.{LedAt, Led, led}
@@ -121,7 +121,7 @@ module _ {code numbers : List ℕ} {activations limit : ℕ} {cells : List ℤ} 
 
   -- the arguments' own cells are below the next activation's
 
-  reached : (i : ℕ) → fields.FieldName st i → LedAt w i → own_at code numbers blocks froms live (at + i) < 32 * live + 32
+  reached : (i : ℕ) → fields.FieldName st i → LedAt w i → field_own code numbers blocks froms live (at + i) < 32 * live + 32
   reached i f l =
       let r = reached-by-links st f.name f.resolved in
       let own = subst (λ v. first_by_links st v + position_in v < 32 * live + 32) (sym f.word) r.own in
@@ -135,8 +135,8 @@ module _ {code numbers : List ℕ} {activations limit : ℕ} {cells : List ℤ} 
       let to = 32 * live + 32 in
       let place : (i : ℕ) → at + (3 + i) ≡ at + 3 + i = λ i. omega arith in
       let next : (i : ℕ) → 32 * (live + 1) + i ≡ to + i = λ i. omega arith in
-      let below : (i : ℕ) → i < arguments → own_at code numbers blocks froms live (at + 3 + i) < to =
-      λ i h. subst (λ p. own_at code numbers blocks froms live p < to) (place i) (reached (3 + i) (a.each i h) (l i h)) in
+      let below : (i : ℕ) → i < arguments → field_own code numbers blocks froms live (at + 3 + i) < to =
+      λ i h. subst (λ p. field_own code numbers blocks froms live p < to) (place i) (reached (3 + i) (a.each i h) (l i h)) in
       let room : to + arguments ≤ length passers = omega (arith, deep, a.many, w.passers-long) in
       record {
         kept = λ c h. all-below code numbers blocks froms live arguments passers (at + 3) to c (omega arith);

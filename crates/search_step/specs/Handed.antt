@@ -9,11 +9,11 @@ use Rattle.std.proofs.Math.ListN.{get_or}
 use Rattle.laws.specs.Tests.{split}
 use Rattle.resolved.specs.Resolved.{position_in, kind_in, direct}
 use Rattle.search_names.specs.Seeking.{first_at}
-use Rattle.search_calls.specs.Passing.{own_at, passer_at, passed, all_passed}
+use Rattle.search_calls.specs.Passing.{field_own, passer_at, passed, all_passed}
 
 module _ (code numbers blocks froms : List ℕ) (live : ℕ) where
   abbrev own : ℕ → ℕ
-  own place = own_at code numbers blocks froms live place
+  own place = field_own code numbers blocks froms live place
 
   abbrev kind : ℕ → ℕ
   kind place = kind_in (get_or code place 0)
