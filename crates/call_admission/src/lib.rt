@@ -1,5 +1,7 @@
 // Which refusal is due to a call, for all engines (document 01, "Causes and numbers", and request 3 for the list): one test after the other, each
 // refusal straight out.
+#![tactic(auto)]
+
 ghost use Rattle.std.specs.Prelude.{Bool, [], ◌≡◌};
 ghost use Rattle.language.specs.Call.{limits_fit, holds_at_least, first_failing, tests_before, admission};
 ghost use Rattle.check_script.specs.Verdicts.{verdict_of};
