@@ -1,4 +1,6 @@
 // A step of the display engine: a name is found by its level and position, the activation of each enclosing level in the display.
+#![tactic(auto)]
+
 ghost use Rattle.std.specs.Prelude.{◌≡◌, ◌<◌};
 ghost use Rattle.run_moves.specs.Acting.{answer};
 ghost use Rattle.table_laws.specs.Listing.{HasList, KeepsList};
