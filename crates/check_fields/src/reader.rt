@@ -1,6 +1,6 @@
 // The reader over the bytes of a script that is lent (document 01, "Code places and their forms"): it hands out what stands at its
-// position. The borrow checker covers no function that has one, so each is proved by hand: those here and in check_readers leave the work to a function
-// of the slice and the number, and the loops over formals, declarations and statements (check_names, check_blocks) move one on.
+// position. The functions that have one, here and in check_readers, leave the work to a function of the slice and the number; the loops over formals,
+// declarations and statements (check_names, check_blocks) move one on.
 ghost use Rattle.std.specs.Prelude.{◌≡◌, ◌^◌, ◌<◌};
 ghost use Rattle.laws.specs.Fields.{field_at};
 
