@@ -5,6 +5,7 @@ use Rattle.run_statements.specs.Answers.{answered-lists}
 use Rattle.display_step.specs.Turns.{leave-ready, left-on, left-keeps, doing, went_on, asked-there, answered-on, jump-ready, jumped-on, jumped-keeps, enter-ready, entered_on, entered-keeps, stopped-at}
 use borrow.Author.Rules.{rules}
 use Rattle.display_step.proofs.step.Goals as goal
+
 -- the places: a statement is done, and before it the end of the text not reached; what it asks for, and where it enters
 pub asked-requires : goal.asked-requires
 asked-requires c =

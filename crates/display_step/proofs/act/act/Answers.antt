@@ -16,12 +16,12 @@ use Rattle.run_statements.specs.Numbers.{op-of, last-op}
 use Rattle.run_statements.specs.Scenes.{Done, done, constant-same, arithmetic-same, goto-same, branch_same, block_same, call_same, call-formal-same, change-same, query-same, goto-found}
 use borrow.Author.Rules.{rules}
 use Rattle.display_step.proofs.act.act.Goals as goal
+
 -- the place where the operation is read, and the start before it
 -- by the operation's number: which it is, what its function asks, and what is done once its function has
 -- a goto's label is no formal
 pub returns-in-5 : goal.returns-in-5
 unfolding operations happens
-
 returns-in-5 c =
     let e = c.in-5.is in
     let ws = (let a = c.args in scene_by a.code.now a.cells.now a.activations a.live a.at).cells in
