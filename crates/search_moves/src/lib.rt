@@ -1,4 +1,6 @@
 // Entering, of the search engine. Leaving and jumping are those of `run_records`.
+#![tactic(auto)]
+
 ghost use Rattle.search_moves.specs.Entry.{Enterable, EnteredIn};
 
 use layout::{cell_at, end_of, first_of, formals_of, names_of};
