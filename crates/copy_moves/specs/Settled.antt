@@ -6,7 +6,7 @@ use Rattle.std.proofs.Math.Option.{Option, some, map}
 use Rattle.std.proofs.Math.Path.{ap}
 use Rattle.std.proofs.lemmas.Bool.{eqb-false}
 use Rattle.std.proofs.Math.ListN.{get_elem?}
-use Rattle.language.specs.Text.{Formal, Block, block_at}
+use Rattle.language.specs.Text.{Block, block_at}
 use Rattle.grammar.specs.Rules.{Keeps}
 use Rattle.laws.specs.Tests.{split}
 use Rattle.laws.specs.Lists.{get_elem-in}

@@ -1,4 +1,6 @@
 // The start of the copying engine, and the looked-up name.
+#![tactic(auto)]
+
 ghost use Rattle.std.specs.Prelude.{◌≡◌};
 ghost use Rattle.copy_moves.specs.Begun.{Beginnable, BegunIn};
 ghost use Rattle.copy_moves.specs.Looked.{Lookable, looked_up};

@@ -17,7 +17,7 @@ use Rattle.run_moves.specs.Effects.{effect_of, cells_of}
 use Rattle.run_moves.specs.Acting.{Scene, moves, rewrites}
 use Rattle.run_statements.specs.Pieces.{move_after, block_move}
 use Rattle.run_statements.specs.Scenes.{Done}
-use Rattle.copy_statements.specs.Doing.{Copy, text, cell, value_at}
+use Rattle.copy_statements.specs.Doing.{Copy, text, value_at}
 use Rattle.copy_statements.specs.Doing.{Mark, arithmetic, branch, constant, call, goto, block, pair, unpair, query, mark_of, happens, doing}
 use Rattle.copy_statements.specs.Doing.{do_constant, do_arithmetic, do_goto, do_branch, do_block, arguments_from, differs, do_call}
 use Rattle.copy_statements.specs.Doing.{do_change, do_query}

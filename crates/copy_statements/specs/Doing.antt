@@ -3,12 +3,11 @@
 -- formals and arguments are. The names are those of `Acting`.
 use Rattle.std.specs.Prelude.{ℕ, zero, suc, ◌+◌, ◌*◌, ◌-◌, Bool, true, false, ◌&&◌, not, List, [], ◌∷◌, eqb, leb, ℤ, pos, get_or, set}
 use Rattle.language.specs.Basics.{eq_z}
-use Rattle.language.specs.Encoding.{signed, BK-mark, CL-mark, GO-mark, IF-mark, KN-mark, AR-mark, AD-mark, RM-mark, QY-mark}
+use Rattle.language.specs.Encoding.{signed, BK-mark, CL-mark, GO-mark, IF-mark, KN-mark, AR-mark, AD-mark, RM-mark}
 use Rattle.language.specs.Machine.{compute}
 use Rattle.language.specs.declared.Stop.TheVariants.{NoActivationLeft, ArgumentsDiffer}
 use Rattle.run_moves.specs.declared.Ask.{Ask}
 use Rattle.run_moves.specs.declared.Ask.TheVariants.{Add, Remove, Query}
-use Rattle.run_moves.specs.declared.Move.{Move}
 use Rattle.run_moves.specs.declared.Move.TheVariants.{On, Table as Asks, Jump, Enter, Stop}
 use Rattle.run_moves.specs.Effects.{effect_of, cells_of, same_kinds}
 use Rattle.run_moves.specs.Acting.{Scene, Happened, moves, rewrites, operation_of, set_all}

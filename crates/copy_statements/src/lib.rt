@@ -1,4 +1,6 @@
 // The statement at a place is done as far as cells go, by its mark in the copied text; where the run goes on is the answer.
+#![tactic(auto)]
+
 ghost use Rattle.std.specs.Prelude.{◌≡◌};
 ghost use Rattle.run_moves.specs.Acting.{scene_by};
 ghost use Rattle.copy_statements.specs.Doing.{doing};
