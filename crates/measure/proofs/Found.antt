@@ -19,10 +19,10 @@ unfolding placed place_or
 placed_at other none i e = absurd (let z : ◌≡◌ {A = ℕ} 0 1 = cc in omega arith)
 placed_at other (some j) i e = let z : j ≡ i = cc in sym z
 
-placed-absent : (other : ℕ) (r : Option ℕ) → placed r ≡ Absent → other ≡ place_or other r
+placed_absent : (other : ℕ) (r : Option ℕ) → placed r ≡ Absent → other ≡ place_or other r
 unfolding placed place_or
-placed-absent other none e = refl
-placed-absent other (some j) e = absurd (let z : ◌≡◌ {A = ℕ} 0 1 = cc in omega arith)
+placed_absent other none e = refl
+placed_absent other (some j) e = absurd (let z : ◌≡◌ {A = ℕ} 0 1 = cc in omega arith)
 
 -- the words in locals are read back from their bits
 module _ {g m : ℤ} (fg : SFits w32 g) (fm : SFits w32 m) (k : ℕ) (ws : List ℤ) {p : PairPlace} (e : p ≡ placed (find (to_z w32 (of_z w32 g)) (to_z w32 (of_z w32 m)) k ws)) where
@@ -33,4 +33,4 @@ module _ {g m : ℤ} (fg : SFits w32 g) (fm : SFits w32 m) (k : ℕ) (ws : List 
   present {i} q = placed_at k (find g m k ws) i (told ∙ q)
 
   pub absent : p ≡ Absent → k ≡ place_or k (find g m k ws)
-  absent q = placed-absent k (find g m k ws) (told ∙ q)
+  absent q = placed_absent k (find g m k ws) (told ∙ q)

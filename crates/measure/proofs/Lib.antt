@@ -1,1 +1,1 @@
-pub mod Found
+mod Found
