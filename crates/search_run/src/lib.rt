@@ -1,4 +1,6 @@
 // The search engine's run.
+#![tactic(auto)]
+
 pub use run::run_program;
 pub use state::start_state;
 

@@ -1,4 +1,6 @@
 // A step of the search engine: a name is found by its number, along the callers' chain and, after an entry through a formal, from that formal's passer on.
+#![tactic(auto)]
+
 ghost use Rattle.std.specs.Prelude.{◌≡◌, ◌<◌};
 ghost use Rattle.run_moves.specs.Acting.{answer};
 ghost use Rattle.table_laws.specs.Listing.{HasList, KeepsList};

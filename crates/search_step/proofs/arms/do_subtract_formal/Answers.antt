@@ -1,0 +1,8 @@
+-- The cells that were found are those that the names stand for.
+use Rattle.language.specs.Text.{minus}
+use Rattle.run_cells.specs.Cells.{arithmetic-at}
+use Rattle.search_step.proofs.arms.do_subtract_formal.Goals as goal
+
+pub returns : goal.returns
+returns c =
+    arithmetic-at _ _ _ c.found-target.ensures.0 c.found-left.ensures.0 c.found-right.ensures.0 minus c.computed.ensures c.subtract.ensures.value c.subtract.ensures.cells_after
