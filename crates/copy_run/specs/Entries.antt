@@ -38,7 +38,6 @@ use Rattle.copy_machine.proofs.Moved.{Hands, EntersAnew}
 use Rattle.frames.proofs.Runs.{CopiesStep, copies-step}
 use Rattle.copy_machine.proofs.Together.{copies-entered}
 use Rattle.copy_texts.specs.Renewing.{Inside, Declared, Enters}
-use Rattle.copy_statements.specs.Doing.{text}
 use Rattle.run_state.specs.declared.Registers.{Registers}
 use Rattle.run_state.specs.Limits.{limits_by}
 use Rattle.copy_moves.specs.Running.{Running}

@@ -24,7 +24,7 @@ use Rattle.resolved.specs.Layout.{operation_in}
 use Rattle.resolve_fields.specs.Walk.{stmt_words}
 use Rattle.copy_fields.specs.NameFields.{named_action, name_words}
 use Rattle.copy_texts.specs.Texts.{reading}
-use Rattle.copy_statements.specs.Doing.{Copy, text, target, Mark, arithmetic, branch, constant, goto, block, pair, unpair, query, mark_of, happens, doing}
+use Rattle.copy_statements.specs.Doing.{Copy, text, Mark, arithmetic, branch, constant, goto, block, pair, unpair, query, mark_of, happens, doing}
 use Rattle.copy_statements.specs.Ready.{Named, By}
 use Rattle.run_state.specs.declared.Registers.{Registers}
 use Rattle.copy_moves.specs.Running.{Running}

@@ -1,15 +1,12 @@
 -- A block's text lies within the text of the block in which it stands: `begins-within`, `ends-within`; and every text within the script: `text-within`.
-use Rattle.std.specs.Prelude.{ℕ, suc, ◌+◌, ◌*◌, ◌≤◌, List, [], ◌∷◌, ◌≡◌, length}
+use Rattle.std.specs.Prelude.{suc, ◌≤◌, ◌∷◌, length}
 use native.Mathlib.Omega.{arith}
-use Rattle.std.proofs.Math.Option.{some}
-use Rattle.std.proofs.Common.{ap}
-use Rattle.std.proofs.Math.ListN.{get_elem?}
-use Rattle.language.specs.Text.{Block, BK, PR, block_at, block_decls, block_stmts, stmt_at}
+use Rattle.language.specs.Text.{Block, BK, block_at, stmt_at}
 use Rattle.language.specs.Encoding.{block_fields, stmt_fields}
 use Rattle.grammar.specs.Rules.{Keeps}
 use Rattle.coordinates.specs.Enclosure.{Enclosing, Enclosure, StandsIn, as-block, as-body, Encloses}
 use Rattle.resolved.specs.Resolved.{place_of, end_place}
-use Rattle.resolved.proofs.Places.{Placed, enclosed-placed, before, before-next, before-within, before_body, body-within, block-place, end_is, stmt-stands, body-stands}
+use Rattle.resolved.proofs.Places.{Placed, enclosed-placed, before-next, before-within, body-within, block-place, end_is, stmt-stands, body-stands}
 
 module _ (t : Block) (keeps : Keeps t) where
   pub text-within : (e : Enclosing) (es : Enclosure) → Encloses t (e ∷ es) → end_place e.text ≤ length (block_fields t)

@@ -1,4 +1,6 @@
 // The copying engine.
+#![tactic(auto)]
+
 pub mod run;
 
 pub use run::run_program;
