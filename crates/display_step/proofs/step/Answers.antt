@@ -1,6 +1,5 @@
 -- `step` meets its contract: at the end of the text the activation is left, and before it the statement is done.
 use Rattle.run_state.specs.Turns.{above_zero}
-use Rattle.table_laws.specs.Listing.{KeepsList}
 use Rattle.run_statements.specs.Answers.{answered-lists}
 use Rattle.display_step.specs.Turns.{leave-ready, left-on, left-keeps, doing, went_on, asked-there, answered-on, jump-ready, jumped-on, jumped-keeps, enter-ready, entered_on, entered-keeps, stopped-at}
 use borrow.Author.Rules.{rules}

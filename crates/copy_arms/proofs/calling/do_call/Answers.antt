@@ -11,32 +11,50 @@ use Rattle.run_moves.specs.declared.Move.{Move}
 use Rattle.copy_arms.specs.Parts.{cell_at, refused_by, refused_at, enter_at, handed_at}
 use Rattle.copy_arms.proofs.Entered.{call-refused, call-stops, call_enters, enters-at}
 use Rattle.copy_arms.proofs.calling.do_call.Goals as goal
+
+-- whether the call is refused, by what the code has read
+refusal :
+    (code area firsts starts targets : List ℕ) (live at place : ℕ) {body count : ℕ} {r t : Bool}
+    → body ≡ get_or targets (cell_at area firsts starts live (place + 1)) 0 → count ≡ get_or area (place + 2) 0
+    → r ≡ refused_by code at body count → r ≡ t → refused_at code area firsts starts targets live at place ≡ t
+refusal code area firsts starts targets live at place b n e t = sym (e ∙ ap₂ (refused_by code at) b n) ∙ t
+
 pub refused-requires : goal.refused-requires
-refused-requires c =
-    let p = c.requires in record { count_bound = rw c.field-count.ensures.0 p.within; callable = rw (rw c.named-procedure.ensures at c.target-body.ensures.0) p.body }
+refused-requires c = record {
+  count_bound = rw c.field-count.ensures.0 c.requires.within;
+  callable = rw (rw c.named-procedure.ensures at c.target-body.ensures.0) c.requires.body;
+}
 
 pub returns-then-refused : goal.returns-then-refused
 returns-then-refused c =
-    let q = call-refused (refused_at c.args.code.now c.args.area.now c.args.firsts.now c.args.starts.now c.args.targets.now c.args.live c.args.at
-    c.args.place) c.args.activations c.args.live (enter_at c.args.area.now c.args.firsts.now c.args.starts.now c.args.targets.now c.args.live c.args.at c.args.place) c.args.cells.now (handed_at c.args.cells.now c.args.area.now c.args.firsts.now c.args.starts.now c.args.targets.now c.args.live c.args.place) (let a = c.args in
-    sym (c.refused.ensures ∙ ap₂ (refused_by a.code.now a.at) (rw c.named-procedure.ensures at c.target-body.ensures.0) c.field-count.ensures.0) ∙ c.if-refused.true) in
+    let a = c.args in
+    let f = refusal a.code.now a.area.now a.firsts.now a.starts.now a.targets.now a.live a.at a.place
+    (rw c.named-procedure.ensures at c.target-body.ensures.0) c.field-count.ensures.0 c.refused.ensures c.if-refused.true in
+    let q = call-refused _ a.activations a.live (enter_at a.area.now a.firsts.now a.starts.now a.targets.now a.live a.at a.place) a.cells.now
+    (handed_at a.cells.now a.area.now a.firsts.now a.starts.now a.targets.now a.live a.place) f in
     record { value = q.0; cells_after = q.1 }
 
 pub returns-then-activations-live : goal.returns-then-activations-live
 returns-then-activations-live c =
-    let q = call-stops (refused_at c.args.code.now c.args.area.now c.args.firsts.now c.args.starts.now c.args.targets.now c.args.live c.args.at
-    c.args.place) c.args.activations c.args.live (enter_at c.args.area.now c.args.firsts.now c.args.starts.now c.args.targets.now c.args.live c.args.at c.args.place) c.args.cells.now (handed_at c.args.cells.now c.args.area.now c.args.firsts.now c.args.starts.now c.args.targets.now c.args.live c.args.place) (let a = c.args in
-    sym (c.refused.ensures ∙ ap₂ (refused_by a.code.now a.at) (rw c.named-procedure.ensures at c.target-body.ensures.0) c.field-count.ensures.0) ∙ c.if-refused.false) c.if-activations-live.true in
+    let a = c.args in
+    let f = refusal a.code.now a.area.now a.firsts.now a.starts.now a.targets.now a.live a.at a.place
+    (rw c.named-procedure.ensures at c.target-body.ensures.0) c.field-count.ensures.0 c.refused.ensures c.if-refused.false in
+    let q = call-stops _ a.activations a.live (enter_at a.area.now a.firsts.now a.starts.now a.targets.now a.live a.at a.place) a.cells.now
+    (handed_at a.cells.now a.area.now a.firsts.now a.starts.now a.targets.now a.live a.place) f c.if-activations-live.true in
     record { value = q.0; cells_after = q.1 }
 
 pub arguments-requires : goal.arguments-requires
-arguments-requires c =
-    let p = c.requires in
-    (omega (arith, p.bounded, c.if-activations-live.false), rw c.field-count.ensures.0 p.arguments)
+arguments-requires c = (omega (arith, c.requires.bounded, c.if-activations-live.false), rw c.field-count.ensures.0 c.requires.arguments)
 
 pub returns : goal.returns
 returns c =
-    let d = call_enters (refused_at c.args.code.now c.args.area.now c.args.firsts.now c.args.starts.now c.args.targets.now c.args.live c.args.at
-    c.args.place) c.args.activations c.args.live (enter_at c.args.area.now c.args.firsts.now c.args.starts.now c.args.targets.now c.args.live c.args.at c.args.place) c.args.cells.now (handed_at c.args.cells.now c.args.area.now c.args.firsts.now c.args.starts.now c.args.targets.now c.args.live c.args.place) (let a = c.args in
-    sym (c.refused.ensures ∙ ap₂ (refused_by a.code.now a.at) (rw c.named-procedure.ensures at c.target-body.ensures.0) c.field-count.ensures.0) ∙ c.if-refused.false)
-    (omega (arith, c.if-activations-live.false)) in record { value = enters-at c.args.at (rw c.named-procedure.ensures at c.target-body.ensures.0) c.activation_of.ensures c.named-procedure.ensures c.field-count.ensures.0 ∙ d.0; cells_after = (rw c.field-count.ensures.0 at c.arguments.ensures) ∙ d.1 }
+    let a = c.args in
+    let body = rw c.named-procedure.ensures at c.target-body.ensures.0 in
+    let f = refusal a.code.now a.area.now a.firsts.now a.starts.now a.targets.now a.live a.at a.place body c.field-count.ensures.0
+    c.refused.ensures c.if-refused.false in
+    let d = call_enters _ a.activations a.live (enter_at a.area.now a.firsts.now a.starts.now a.targets.now a.live a.at a.place) a.cells.now
+    (handed_at a.cells.now a.area.now a.firsts.now a.starts.now a.targets.now a.live a.place) f (omega (arith, c.if-activations-live.false)) in
+    record {
+      value = enters-at a.at body c.activation_of.ensures c.named-procedure.ensures c.field-count.ensures.0 ∙ d.0;
+      cells_after = (rw c.field-count.ensures.0 at c.arguments.ensures) ∙ d.1;
+    }

@@ -7,7 +7,7 @@ use lib.ListN.{get_or}
 use Rattle.language.specs.Text.{plus, minus, less}
 use Rattle.run_moves.specs.declared.Move.{Move}
 use Rattle.run_moves.specs.declared.Ask.TheVariants.{Add, Remove}
-use Rattle.run_moves.specs.Acting.{Finding, Scene, scene_by, constant-op, operations, op_of, happens, acting}
+use Rattle.run_moves.specs.Acting.{scene_by, constant-op, operations, op_of, happens, acting}
 use Rattle.resolved.specs.Layout.{operation_in}
 use Rattle.display_moves.specs.Running.{Doing}
 use Rattle.display_step.specs.Finding.{first_cell, by_display}
