@@ -1,4 +1,6 @@
 // The static-chain engine's call: admission, the resolved script, the run on the lent records, the sheet, the answer.
+#![tactic(auto)]
+
 ghost use Rattle.std.specs.Prelude.{◌≡◌, ◌≤◌, length, replicate};
 ghost use Rattle.language.specs.Text.{Block};
 ghost use Rattle.language.specs.Call.{admission, chain};

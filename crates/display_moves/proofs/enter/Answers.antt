@@ -1,9 +1,8 @@
 -- What entering reads and writes is within its arrays, and the state is then the one a step later.
-use Rattle.std.proofs.Common.{arith, rules, ◌∙◌}
+use Rattle.std.proofs.Common.{ℕ, List, ℤ, ◌∙◌, arith, rules}
 use Rattle.display_moves.specs.Moving.{Fits, entry-fits, linked, enters-as}
 use Rattle.display_moves.specs.Running.{EnterReady}
 use Rattle.run_state.specs.declared.Registers.{Registers}
-use Rattle.std.proofs.Common.{ℕ, List, ℤ}
 use Rattle.display_moves.proofs.enter.Goals as goal
 
 fits : {code : List ℕ} {cells : List ℤ} {blocks nexts links display : List ℕ} {here : Registers} {body link back : ℕ}
