@@ -2,7 +2,7 @@
 -- so it is from whichever state it began. `goes-begun`: it begins so; `goes_further`: a step keeps it; `finished_as`, `stopped`, `spent`: the three ends;
 -- `stays`: a statement that stops leaves all as it was. `starts`: the engine can stand where a program begins, and `program-run`: what a run from there is
 -- to the program.
-use Rattle.std.specs.Prelude.{ℕ, ◌+◌, ◌-◌, ◌≤◌, ◌<◌, List, ◌≡◌, refl, ℤ, length, get_or, set}
+use Rattle.std.specs.Prelude.{ℕ, ◌+◌, ◌-◌, ◌≤◌, ◌<◌, List, ◌≡◌, refl, ℤ, length, set}
 use Rattle.std.proofs.Common.{arith, sym, ◌∙◌}
 use Rattle.std.proofs.Math.Path.{subst}
 use Rattle.language.specs.declared.Stop.{Stop}

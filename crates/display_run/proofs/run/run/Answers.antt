@@ -1,11 +1,10 @@
 -- `run` meets its contract. The loop's invariant: the run has come so far that so many steps are left.
-use mathlib.Core.Path.{◌≡◌, refl, ◌∙◌}
-use lib.ListN.{length}
+use mathlib.Core.Path.{refl, ◌∙◌}
 use borrow.Author.Rules.{rules}
-use Rattle.table_laws.specs.Listing.{KeepsList}
 use Rattle.run_state.specs.Listed.{list-has, list-went, list-finished, list-stopped, list-spent}
-use Rattle.display_run.specs.Ending.{Goes, goes-begun, goes_further, goes_on, looking, live-placed, at-placed, placed, few-left, spent, stopped-looking, stopped, finished_as}
+use Rattle.display_run.specs.Ending.{goes-begun, goes_further, goes_on, looking, live-placed, at-placed, placed, few-left, spent, stopped-looking, stopped, finished_as}
 use Rattle.display_run.proofs.run.run.Goals as goal
+
 -- the places on the way to a stop: the cause read and the halt made; the step that stops, and the loop's turn
 pub settle-requires : goal.settle-requires
 settle-requires c =
@@ -46,9 +45,12 @@ returns c =
 
 pub returns-in-Stopped : goal.returns-in-Stopped
 returns-in-Stopped c =
-    record { run_from = λ w.
+    record {
+      run_from = λ w.
           stopped c.loop-left.invariant.0 w c.step.ensures.turns_to c.in-Stopped.is c.settle.ensures.nexts_after c.settle.ensures.value c.named.ensures
-          c.loop-left-test.true c.stopped-halt.ensures; keeps_list = list-stopped c.loop-left.here c.loop-left.invariant.1.1 _ c.step.ensures.keeps_list c.in-Stopped.is c.stopped-halt.ensures c.named.ensures }
+          c.loop-left-test.true c.stopped-halt.ensures;
+      keeps_list = list-stopped c.loop-left.here c.loop-left.invariant.1.1 _ c.step.ensures.keeps_list c.in-Stopped.is c.stopped-halt.ensures c.named.ensures;
+    }
 
 pub loop-left-init : goal.loop-left-init
 loop-left-init c = (search goes-begun, (refl, λ past b. b))

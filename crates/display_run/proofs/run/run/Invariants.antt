@@ -1,9 +1,7 @@
-use mathlib.Core.Path.{◌≡◌, refl, ◌∙◌}
+use mathlib.Core.Path.{◌≡◌}
 use lib.ListN.{length}
-use borrow.Author.Rules.{rules}
 use Rattle.table_laws.specs.Listing.{KeepsList}
-use Rattle.run_state.specs.Listed.{list-has, list-went, list-finished, list-stopped, list-spent}
-use Rattle.display_run.specs.Ending.{Goes, goes-begun, goes_further, goes_on, looking, live-placed, at-placed, placed, few-left, spent, stopped-looking, stopped, finished_as}
+use Rattle.display_run.specs.Ending.{Goes}
 use Rattle.display_run.proofs.run.run.Given as goal
 
 abbrev pub invariant-loop-left : goal.invariant-loop-left

@@ -1,8 +1,8 @@
 -- `run_program` meets its contract: the engine can stand where the program begins, and runs from there.
-use borrow.Author.Rules.{rules}
 use Rattle.run_state.specs.Listed.{list-starts, list-ran}
 use Rattle.display_run.specs.Ending.{starts, program-run}
 use Rattle.display_run.proofs.run.run_program.Goals as goal
+
 -- the place where the start is made
 pub run-requires : goal.run-requires
 run-requires c =
