@@ -1,4 +1,6 @@
 // The display engine's call: admission, the resolved script, the run, the sheet, the answer.
+#![tactic(auto)]
+
 ghost use Rattle.language.specs.Text.{Block};
 ghost use Rattle.language.specs.Call.{display};
 ghost use Rattle.runs.specs.Admission.{Admitted};
