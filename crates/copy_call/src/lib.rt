@@ -1,4 +1,6 @@
 // The copying engine's call: admission, the resolved script and the words of its names, the run on the lent area, the sheet, the answer.
+#![tactic(auto)]
+
 ghost use Rattle.std.specs.Prelude.{length};
 ghost use Rattle.language.specs.Text.{Block};
 ghost use Rattle.language.specs.Call.{copying};

@@ -1,0 +1,27 @@
+-- What comes of the run, or a refusal.
+use Rattle.std.proofs.Common.{false, length}
+use Rattle.language.specs.Call.{copying}
+use Rattle.call_admission.specs.Lent.{fed_of}
+use Rattle.call_replies.specs.Replies.{admitted-call, refused-call, leaving-all, leaving-length}
+use Rattle.copy_call.proofs.call.Goals as goal
+
+pub ran-requires : goal.ran-requires
+ran-requires c =
+    let s = c.args in
+    admitted-call (copying (length s.area.now)) (fed_of s.numbers s.script.now s.table.now s.groups.now s.sheet.now) c.admit.result (c.admit.ensures false)
+    c.in-Fit.is
+
+pub returns-in-Refused : goal.returns-in-Refused
+returns-in-Refused c =
+    let s = c.args in
+    let e = copying (length s.area.now) in
+    let f = fed_of s.numbers s.script.now s.table.now s.groups.now s.sheet.now in
+    leaving-all e f (refused-call e f c.admit.result (c.admit.ensures false) c.in-Refused.cause c.in-Refused.offset c.in-Refused.is c.refused_answer.ensures)
+    s.area.now
+
+pub returns-in-Fit : goal.returns-in-Fit
+returns-in-Fit c =
+    let s = c.args in
+    let e = copying (length s.area.now) in
+    let f = fed_of s.numbers s.script.now s.table.now s.groups.now s.sheet.now in
+    leaving-length e f c.ran.ensures (admitted-call e f c.admit.result (c.admit.ensures false) c.in-Fit.is).1 c.ran.auto.area

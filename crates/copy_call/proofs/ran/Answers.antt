@@ -1,0 +1,48 @@
+-- What the run and the sheet come to is the copy rule's reply.
+use Rattle.std.proofs.Common.{arith, ◌<◌, length, refl}
+use Rattle.language.specs.Call.{copying}
+use Rattle.grammar.specs.Words.{bytes-are}
+use Rattle.frames.specs.Frame.{frame_run_of}
+use Rattle.resolve_script.specs.Resolving.{resolved-covers}
+use Rattle.call_admission.specs.Lent.{fed_of}
+use Rattle.call_replies.specs.Replies.{no-links, tally-fits}
+use Rattle.call_replies.specs.Runs.{call-lists, sheet-needs, run-replies}
+use Rattle.copy_call.proofs.Pieces.{beginning}
+use Rattle.copy_call.proofs.ran.Goals as goal
+
+pub run_program-halt-requires : goal.run_program-halt-requires
+run_program-halt-requires c =
+    let s = c.args in
+    let p = c.requires in
+    let bytes = bytes-are s.script.now (λ i. (c.type_inv.script i).fits) in
+    let small : s.numbers.name < 65536 = omega arith in
+    record {
+      beginning = beginning s.area.now bytes small p.1 (resolved-covers _ _ _ c.resolve.ensures _ p.1.script) c.name_fields.ensures.noted;
+      has_list = (_, call-lists p.1);
+    }
+
+pub write_sheet-written-requires : goal.write_sheet-written-requires
+unfolding frame_run_of
+write_sheet-written-requires c =
+    let s = c.args in
+    let p = c.requires in
+    let bytes = bytes-are s.script.now (λ i. (c.type_inv.script i).fits) in
+    let small : s.numbers.name < 65536 = omega arith in
+    let covers = resolved-covers _ _ _ c.resolve.ensures _ p.1.script in
+    let w = sheet-needs bytes p.1 covers (c.run_program-halt.ensures.ended (beginning s.area.now bytes small p.1 covers c.name_fields.ensures.noted)) in
+    record { held = w.0; live_in_bounds = w.1 }
+
+pub ran_answer-requires : goal.ran_answer-requires
+ran_answer-requires c = tally-fits c.requires.1
+
+pub returns : goal.returns
+unfolding frame_run_of
+returns c =
+    let s = c.args in
+    let p = c.requires in
+    let bytes = bytes-are s.script.now (λ i. (c.type_inv.script i).fits) in
+    let small : s.numbers.name < 65536 = omega arith in
+    let covers = resolved-covers _ _ _ c.resolve.ensures _ p.1.script in
+    run-replies bytes p.1 covers (c.run_program-halt.ensures.ended (beginning s.area.now bytes small p.1 covers c.name_fields.ensures.noted))
+    c.write_sheet-written.ensures c.run_program-halt.ensures.keeps_list
+    (no-links (copying (length s.area.now)) (fed_of s.numbers s.script.now s.table.now s.groups.now s.sheet.now) _ refl) c.ran_answer.ensures
