@@ -1,4 +1,6 @@
 // The search engine's call: admission, the resolved script, its names' numbers, the run, the links of what it leaves, the sheet, the answer.
+#![tactic(auto)]
+
 ghost use Rattle.language.specs.Text.{Block};
 ghost use Rattle.language.specs.Call.{search};
 ghost use Rattle.runs.specs.Admission.{Admitted};

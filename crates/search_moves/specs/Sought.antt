@@ -8,7 +8,7 @@ use Rattle.std.proofs.Math.Option.{some, map}
 use Rattle.std.proofs.Math.Path.{refl, sym, ap, subst}
 use Rattle.std.proofs.Common.{◌∙◌}
 use Rattle.std.proofs.Math.ListN.{get_or, get_elem?}
-use Rattle.language.specs.Text.{Action, CL, GO, IF, KN, AR, AD, RM, QY, Block, Stmt, DO, block_at, block_stmts, stmt_at}
+use Rattle.language.specs.Text.{Action, CL, GO, IF, KN, AR, AD, RM, QY, Block, Stmt, DO, block_at, stmt_at}
 use Rattle.laws.specs.Tests.{split, never, none≢some, some_inj}
 use Rattle.laws.specs.Lists.{get_elem-in, get_elem-bound, get_d-elem, get_elem?-map}
 use Rattle.laws.specs.Each.{Each, each_at}

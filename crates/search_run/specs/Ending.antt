@@ -5,23 +5,18 @@
 use Prim.Native.Nat.{ℕ, zero, suc, pred, ◌+◌, ◌-◌, ◌*◌, ◌≤◌, ◌<◌}
 use native.Mathlib.Omega.{arith}
 use Rattle.std.specs.Prelude.{List, [], ◌∷◌, ◌≡◌, refl, ℤ, length, get_or, set, replicate}
-use Rattle.std.proofs.Math.Option.{some}
 use Rattle.std.proofs.Common.{sym, ◌∙◌}
 use Rattle.std.proofs.Math.Path.{ap, subst}
 use Rattle.std.proofs.Math.ListN.{get_elem?}
-use Rattle.language.specs.Text.{procedure, Formal, Block}
+use Rattle.language.specs.Text.{Block}
 use Rattle.language.specs.Table.{Table}
 use Rattle.language.specs.declared.Stop.{Stop}
 use Rattle.language.specs.declared.End.{End}
 use Rattle.language.specs.declared.End.TheVariants.{Spent}
-use Rattle.language.specs.declared.End.TheVariants as End
 use Rattle.laws.specs.Tests.{none≢some, some_inj}
 use Rattle.frames.specs.Frame.{Frame, Stack, Result, results, designates, halted, frame_step, frame_run, frame_start, new_frame}
-use Rattle.f_search.specs.Passers.{passer}
-use Rattle.f_search.specs.Search.{onward}
 use Rattle.f_search.proofs.Kept.{call-program, through-none, passer_of-none, onward-none}
-use Rattle.steps.specs.Standing.{Standing}
-use Rattle.steps.specs.Here.{live-few, downward}
+use Rattle.steps.specs.Here.{live-few}
 use Rattle.steps.specs.Reads.{at-within, begin-reads}
 use Rattle.steps.specs.Begun.{AtStart, result_from}
 use Rattle.steps.specs.Loop.{begins}
@@ -37,7 +32,7 @@ use Rattle.run_state.specs.Limits.{limits_by, goes_to}
 use Rattle.run_state.specs.Halts.{finished_after, spent_after, stopped_after, named_by}
 use Rattle.run_state.specs.Ended.{from_start, finished-end, spent-end, stopped-end}
 use Rattle.search_moves.specs.Running.{Froms, Passers, Running}
-use Rattle.search_step.specs.Turning.{Arrays, arrays_of, Turned, TurnsTo}
+use Rattle.search_step.specs.Turning.{Arrays, Turned, TurnsTo}
 use Rattle.search_run.specs.Program.{Beginning, EndedIn, Ended, start_by}
 use Rattle.search_run.specs.Looked.{Looking}
 

@@ -1,6 +1,6 @@
 -- Which statements enter: BK and CL alone (`entering-op`). `steered-entry`: where the search goes on from the activation that is entered and what its
 -- formals' passers are, as the engine has them, is as the stack and its texts say.
-use Rattle.std.specs.Prelude.{ℕ, suc, pred, ◌+◌, ◌*◌, ◌≤◌, ◌<◌, Bool, true, List, ◌≡◌, leb, ℤ, pos, length}
+use Rattle.std.specs.Prelude.{ℕ, suc, pred, ◌+◌, ◌*◌, ◌≤◌, ◌<◌, Bool, true, List, ◌≡◌, ℤ, pos, length}
 use native.Mathlib.Omega.{arith}
 use Rattle.std.proofs.Math.Bool.{false}
 use Rattle.std.proofs.Math.Option.{some}
@@ -8,26 +8,26 @@ use Rattle.std.proofs.Math.Path.{refl, sym, ap, subst}
 use Rattle.std.proofs.Common.{◌∙◌}
 use Rattle.std.proofs.Math.ListN.{get_or}
 use Rattle.language.specs.Basics.{eq_z}
-use Rattle.language.specs.Text.{Operation, CL, Stmt, BK, DO}
+use Rattle.language.specs.Text.{Operation, Stmt}
 use Rattle.laws.specs.Tests.{split, never}
 use Rattle.frames.specs.Frame.{frame_stmt}
 use Rattle.coordinates.specs.Chain.{enclosure_of}
 use Rattle.coordinates.specs.Enclosure.{Enclosure}
 use Rattle.f_search.specs.Search.{onward}
-use Rattle.resolved.specs.Resolved.{position_in, kind_in, direct, name_word}
+use Rattle.resolved.specs.Resolved.{position_in}
 use Rattle.run_moves.specs.declared.Effect.{Effect as Kept}
 use Rattle.run_moves.specs.declared.Effect.TheVariants.{Done as Stored, Stopped as Refused}
 use Rattle.run_moves.specs.declared.Move.{Move}
 use Rattle.run_moves.specs.declared.Move.TheVariants.{On, Table as Asks, Jump, Enter, Stop}
 use Rattle.run_moves.specs.Effects.{effect_of}
-use Rattle.run_moves.specs.Acting.{Finding, Scene, Happened, moves, rewrites, value_of, field, arithmetic_move, do_constant, do_arithmetic, operation_of, do_goto, do_branch, no_room, do_block, do_call, do_call_formal, do_change, do_query, happens, acting}
+use Rattle.run_moves.specs.Acting.{Finding, Scene, moves, rewrites, value_of, field, arithmetic_move, do_constant, do_arithmetic, do_goto, do_branch, do_change, do_query, happens, acting}
 use Rattle.run_moves.specs.Acting.{Op, constant-op, add-op, subtract-op, compare-op, branch-op, goto-op, block-op, call-op, pair-op, unpair-op, query-op, constant-formal-op, arithmetic-formal-op, branch-formal-op, goto-formal-op, call-formal-op, op_of}
 use Rattle.steps.specs.Standing.{Standing}
 use Rattle.steps.specs.Means.{EntersAt}
-use Rattle.steps.specs.Here.{next-stmt, covered, live-few}
+use Rattle.steps.specs.Here.{next-stmt, covered}
 use Rattle.steps.specs.Ops.{OpIs, op-is}
 use Rattle.steps.specs.Fields as fields
-use Rattle.steps.specs.Finding.{Reaches, first_by_links, reached-by-links}
+use Rattle.steps.specs.Finding.{first_by_links, reached-by-links}
 use Rattle.run_state.specs.declared.Registers.{Registers}
 use Rattle.run_state.specs.Limits.{limits_by}
 use Rattle.search_names.specs.Seeking.{first_at}

@@ -1,14 +1,13 @@
 -- The passers once a call's arguments are handed on: `handed-on`, what the steering of an entry asks.
-use Prim.Native.Nat.{ℕ, zero, suc, ◌+◌, ◌*◌, ◌≤◌, ◌<◌}
+use Prim.Native.Nat.{ℕ, zero, suc, ◌+◌, ◌≤◌, ◌<◌}
 use native.Mathlib.Omega.{arith}
-use Rattle.std.specs.Prelude.{List, ◌≡◌, eqb, ℤ, length, set}
+use Rattle.std.specs.Prelude.{List, ◌≡◌, eqb, length}
 use Rattle.std.proofs.Math.Path.{refl, ap, subst}
 use Rattle.std.proofs.Common.{sym, ◌∙◌, length-set, get_or-set_same, get_or-set_other}
-use borrow.Author.Tests.{eq-eqb, eqb-true, eqb-false}
+use borrow.Author.Tests.{eq-eqb}
 use Rattle.std.proofs.Math.ListN.{get_or}
 use Rattle.laws.specs.Tests.{split}
-use Rattle.resolved.specs.Resolved.{position_in, kind_in, direct}
-use Rattle.search_names.specs.Seeking.{first_at}
+use Rattle.resolved.specs.Resolved.{kind_in, direct}
 use Rattle.search_calls.specs.Passing.{field_own, passer_at, passed, all_passed}
 
 module _ (code numbers blocks froms : List ℕ) (live : ℕ) where

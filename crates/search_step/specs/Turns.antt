@@ -1,13 +1,12 @@
 -- A step of the search engine, by what the statement comes to (`Acts`). For each move: the engine goes on (`went_on`, `answered-on`), or is ready to jump or
 -- to enter (`jump-ready`, `enter-ready`), and stands after the step once it has (`jumped-on`, `entered_on`); a statement that stops leaves all as it was
 -- (`stopped-at`). At the end of a text: `leave-ready`, `left-on`. The list stays beside the table (`left-keeps`, `jumped-keeps`, `entered-keeps`).
-use Rattle.std.specs.Prelude.{ℕ, suc, pred, ◌+◌, ◌-◌, ◌≤◌, ◌<◌, List, refl, ℤ, get_or}
+use Rattle.std.specs.Prelude.{ℕ, ◌+◌, ◌-◌, ◌≤◌, ◌<◌, List, refl, ℤ, get_or}
 use Rattle.std.proofs.Common.{arith, ◌∙◌}
-use Rattle.std.proofs.Math.Option.{some}
 use Rattle.std.proofs.Math.Path.{◌≡◌, sym, ap, subst}
 use Rattle.std.proofs.Math.ListN.{length}
 use Rattle.language.specs.declared.Stop.{Stop as Cause}
-use Rattle.frames.specs.Frame.{Frame, numbered, frame_step, halted}
+use Rattle.frames.specs.Frame.{frame_step, halted}
 use Rattle.resolved.specs.Layout.{end_in}
 use Rattle.run_moves.specs.declared.Move.{Move}
 use Rattle.run_moves.specs.declared.Ask.{Ask}
@@ -38,7 +37,7 @@ use Rattle.search_moves.specs.Entering.{enterable, entered-to}
 use Rattle.run_statements.specs.declared.moved.Moved.{Moved}
 use Rattle.run_statements.specs.declared.moved.Moved.TheVariants.{Went, Table, Jump, Enter, Stop}
 use Rattle.run_statements.specs.Moved.{moved_by}
-use Rattle.search_step.specs.Acted.{Doing, from_by, entered_passers, passers_after, happening, Acts}
+use Rattle.search_step.specs.Acted.{Doing, from_by, passers_after, happening, Acts}
 use Rattle.search_step.specs.Turning.{arrays_of, Turned}
 use Rattle.search_step.specs.Entries.{enters-by, Steered, steered-entry}
 

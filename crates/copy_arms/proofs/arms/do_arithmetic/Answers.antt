@@ -1,8 +1,7 @@
 -- `do_arithmetic` meets its contract.
-use Prim.Native.Nat.{ℕ, ◌+◌}
+use Prim.Native.Nat.{◌+◌}
 use mathlib.Core.Path.{sym, ◌∙◌}
 use lib.ListN.{get_or}
-use borrow.Author.Rules.{rules}
 use Rattle.language.specs.Text.{plus, minus}
 use Rattle.run_statements.specs.Doing.{is-plus, is-minus, is-less}
 use Rattle.copy_arms.proofs.Results.{computes, compares}

@@ -1,11 +1,8 @@
 -- `arguments` meets its contract. The loop's invariant: setting the arguments from i on gives what setting all of them gives.
-use Prim.Native.Nat.{◌+◌, ◌-◌, ◌≤◌}
+use Prim.Native.Nat.{◌+◌, ◌-◌}
 use native.Mathlib.Omega.{arith}
 use mathlib.Core.Path.{◌≡◌, ◌∙◌}
-use borrow.Author.Rules.{rules}
-use Rattle.run_moves.specs.Acting.{set_all}
 use Rattle.run_statements.specs.Words.{read_back}
-use Rattle.copy_arms.specs.Parts.{handed_from}
 use Rattle.copy_arms.proofs.Entered.{arguments-end, arguments-next}
 use Rattle.copy_arms.proofs.calling.arguments.Goals as goal
 -- the start, from before the loop

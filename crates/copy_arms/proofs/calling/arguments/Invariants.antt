@@ -1,11 +1,7 @@
 use Prim.Native.Nat.{◌+◌, ◌-◌, ◌≤◌}
-use native.Mathlib.Omega.{arith}
-use mathlib.Core.Path.{◌≡◌, ◌∙◌}
-use borrow.Author.Rules.{rules}
+use mathlib.Core.Path.{◌≡◌}
 use Rattle.run_moves.specs.Acting.{set_all}
-use Rattle.run_statements.specs.Words.{read_back}
 use Rattle.copy_arms.specs.Parts.{handed_from}
-use Rattle.copy_arms.proofs.Entered.{arguments-end, arguments-next}
 use Rattle.copy_arms.proofs.calling.arguments.Given as goal
 
 abbrev pub invariant-loop-i : goal.invariant-loop-i

@@ -4,10 +4,7 @@ use native.Mathlib.Omega.{arith}
 use mathlib.Core.Bool.{Bool}
 use mathlib.Core.List.{List}
 use mathlib.Core.Path.{◌≡◌, sym, ap₂, ◌∙◌}
-use lib.IntN.{ℤ}
 use lib.ListN.{get_or}
-use borrow.Author.Rules.{rules}
-use Rattle.run_moves.specs.declared.Move.{Move}
 use Rattle.copy_arms.specs.Parts.{cell_at, refused_by, refused_at, enter_at, handed_at}
 use Rattle.copy_arms.proofs.Entered.{call-refused, call-stops, call_enters, enters-at}
 use Rattle.copy_arms.proofs.calling.do_call.Goals as goal

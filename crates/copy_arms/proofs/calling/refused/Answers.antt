@@ -1,11 +1,8 @@
 -- `refused` meets its contract.
 use native.Mathlib.Omega.{arith}
-use mathlib.Core.Path.{◌≡◌, sym, ap, ◌∙◌}
+use mathlib.Core.Path.{sym, ap, ◌∙◌}
 use borrow.Author.Tests.{eq-eqb}
-use lib.ListN.{get_or}
-use borrow.Author.Rules.{rules}
 use Rattle.resolved.specs.Layout.{operation_in, formals_in}
-use Rattle.run_statements.specs.Pieces.{FormalsBefore}
 use Rattle.copy_arms.proofs.Entered.{no-formal, number-differs, kinds-tell}
 use Rattle.copy_arms.proofs.calling.refused.Goals as goal
 

@@ -1,5 +1,5 @@
 -- Each arm's function does what the statement does for its operation.
-use Rattle.std.proofs.Common.{◌≡◌, ℕ, ◌≤◌, List, ℤ, get_or, sym, ap, ◌∙◌, arith, rules}
+use Rattle.std.proofs.Common.{◌≡◌, ℕ, List, ℤ, get_or, sym, ap, ◌∙◌, arith, rules}
 use Rattle.run_moves.specs.Acting.{constant-op, operations, op_of}
 use Rattle.resolved.specs.Layout.{operation_in}
 use Rattle.run_statements.specs.Numbers.{op-of, last-op}
