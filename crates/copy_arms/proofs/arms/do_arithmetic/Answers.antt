@@ -6,6 +6,7 @@ use Rattle.language.specs.Text.{plus, minus}
 use Rattle.run_statements.specs.Doing.{is-plus, is-minus, is-less}
 use Rattle.copy_arms.proofs.Results.{computes, compares}
 use Rattle.copy_arms.proofs.arms.do_arithmetic.Goals as goal
+
 -- the operation's field
 pub returns-then-operation-eq-PLUS : goal.returns-then-operation-eq-PLUS
 returns-then-operation-eq-PLUS c =

@@ -5,6 +5,7 @@ use mathlib.Core.Path.{◌≡◌, ◌∙◌}
 use Rattle.run_statements.specs.Words.{read_back}
 use Rattle.copy_arms.proofs.Entered.{arguments-end, arguments-next}
 use Rattle.copy_arms.proofs.calling.arguments.Goals as goal
+
 -- the start, from before the loop
 pub loop-i-init : goal.loop-i-init
 loop-i-init c =
