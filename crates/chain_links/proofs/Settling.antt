@@ -8,7 +8,8 @@ use Rattle.run_state.specs.declared.Registers.{Registers}
 use Rattle.chain_links.specs.Records.{hop-follows, links_in, blocks_in}
 use Rattle.chain_links.specs.Running.{Running, Reached, links_to, found_by}
 use Rattle.chain_links.specs.Moving.{room-there, linked, block_read, block-fits}
-use Rattle.chain_links.specs.Names.{outer-there, reached-there, found-there, found_in}
+use Rattle.chain_links.specs.Names.{found_in}
+use Rattle.chain_links.proofs.Names.{outer-there, reached-there, found-there}
 
 module _ {code : List ℕ} {activations limit : ℕ} {cells : List ℤ} {records : List Activation} {table : List ℤ} {here : Registers}
     (w : Running code activations limit cells records table here) (own : Activation) (own_is : own ≡ at records here.live) where

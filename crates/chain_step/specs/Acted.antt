@@ -33,7 +33,7 @@ use Rattle.chain_links.specs.Records.{blocks_in, nexts_in, links_in}
 use Rattle.chain_links.specs.Finding.{first_cell, by_chain, Named}
 use Rattle.run_state.specs.Limits.{limits_by}
 use Rattle.chain_links.specs.Running.{Running}
-use Rattle.chain_links.specs.Names as links
+use Rattle.chain_links.proofs.Names as links
 use Rattle.chain_step.specs.declared.turn.Moved.{Moved}
 use Rattle.chain_step.specs.Moved.{moved_by}
 use Rattle.chain_step.specs.Numbers.{number_of, number-of}

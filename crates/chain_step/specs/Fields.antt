@@ -10,7 +10,7 @@ use Rattle.chain_links.specs.Records.{blocks_in, nexts_in, links_in}
 use Rattle.chain_links.specs.Finding.{first_cell, Seen}
 use Rattle.run_state.specs.Limits.{limits_by}
 use Rattle.chain_links.specs.Running.{Running}
-use Rattle.chain_links.specs.Names as links
+use Rattle.chain_links.proofs.Names as links
 
 module _ {code : List ℕ} {activations limit : ℕ} {cells : List ℤ} {records : List Activation} {table : List ℤ} {here : Registers}
     (w : Running code activations limit cells records table here) where

@@ -29,7 +29,7 @@ use Rattle.run_state.specs.Limits.{limits_by}
 use Rattle.run_state.specs.Turns.{above_zero, pairs_after}
 use Rattle.chain_links.specs.Running.{now_by, Running, Succeeds, EnterReady}
 use Rattle.chain_links.specs.Moving.{home-live, jumps-here, jumps-by, leaves_by}
-use Rattle.chain_links.specs.Names.{finds-by-chain}
+use Rattle.chain_links.proofs.Names.{finds-by-chain}
 use Rattle.run_state.specs.declared.Turn.{Turn}
 use Rattle.run_state.specs.declared.Turn.TheVariants.{Went, Finished, Stopped}
 use Rattle.chain_step.specs.declared.turn.Asking.{Asking}

@@ -2,7 +2,8 @@
 use Rattle.std.proofs.Common.{sym, ap, subst, ◌∙◌, arith}
 use Rattle.run_state.specs.declared.Halt.{Halt}
 use Rattle.chain_run.specs.Running.{RunFrom}
-use Rattle.chain_run.specs.Ending.{left-within, at-within-script, live-within, one_left, looks, finished-end, halted-end, halted-pairs}
+use Rattle.chain_run.specs.Ending.{halted-pairs}
+use Rattle.chain_run.proofs.Endings.{left-within, at-within-script, live-within, one_left, looks, finished-end, halted-end}
 use Rattle.chain_run.proofs.ending.ended.Goals as goal
 
 pub finished_halt-requires : goal.finished_halt-requires

@@ -7,7 +7,8 @@ use Rattle.run_state.specs.declared.Turn.{Turn}
 use Rattle.run_state.specs.Listed.{list-has}
 use Rattle.chain_links.specs.Running.{Running}
 use Rattle.chain_step.specs.Moves.{is_went}
-use Rattle.chain_run.specs.Ending.{Going, Last, Ending, begun, went-as, over-as, out-of-steps}
+use Rattle.chain_run.specs.Ending.{Going, Last, Ending, begun}
+use Rattle.chain_run.proofs.Endings.{went-as, over-as, out-of-steps}
 use Rattle.chain_run.specs.Listed.{list-went}
 use Rattle.chain_run.proofs.run.run.Goals as goal
 use Rattle.chain_run.proofs.run.run.Goals.{else-loop-left-test, then-loop-left-test+then-halts}

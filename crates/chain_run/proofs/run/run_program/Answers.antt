@@ -1,6 +1,6 @@
 -- The engine stands where the program begins, once the program's record is written.
 use Rattle.std.proofs.Common.{set, ap, ◌∙◌}
-use Rattle.chain_run.specs.Ending.{room-first, starts, program-run}
+use Rattle.chain_run.proofs.Endings.{room-first, starts, program-run}
 use Rattle.chain_run.proofs.run.run_program.Goals as goal
 
 pub push-requires : goal.push-requires
