@@ -15,7 +15,7 @@ returns c =
     let s = c.args in
     let live = s.here.live + 1 in
     let from : c.cell_at.result ≡ cell_from live (formals_in (get_or s.code.now s.body 0)) = c.cell_at.ensures ∙ ap (cell_from live) (c.formals_of.ensures.0 ∙ ap formals_in h) in
-    let to : c.cell_at-2.result ≡ cell_from live (names_in (get_or s.code.now s.body 0)) = c.cell_at-2.ensures ∙ ap (cell_from live) (c.names_of.ensures ∙ ap names_in h) in
+    let to : c.cell_at-2.result ≡ cell_from live (names_in (get_or s.code.now s.body 0)) = cc in
     let first : c.first_of.result ≡ first_in (get_or s.code.now (s.body + 1) 0) = c.first_of.ensures ∙ ap first_in b in
     let end : c.end_of.result ≡ end_in (get_or s.code.now (s.body + 1) 0) = c.end_of.ensures.0 ∙ ap end_in b in
     record {
