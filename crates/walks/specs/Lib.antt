@@ -4,8 +4,10 @@ pub mod Params
 pub mod Calls
 pub mod Frames
 pub mod Locals
+pub mod Rows
 pub mod Lends
 pub mod Elements
+pub mod Wholes
 pub mod Functions
 pub mod Holes
 pub mod Clauses
