@@ -1,6 +1,6 @@
 -- What an engine makes of a name's word w, once it has the first cell of the activation that declares the name, whichever way it found that:
--- the cell of the declared name that the name finally stands for (`cellBy`), the activation there (`homeBy`), what it leads to (`targetBy`),
--- and what a call hands on of it (`handedBy`). `finds`: these are what the frame machine has of what the name designates; in a run,
+-- the cell of the declared name that the name finally stands for (`cell_by`), the activation there (`home_by`), what it leads to (`target_by`),
+-- and what a call hands on of it (`handed_by`). `finds`: these are what the frame machine has of what the name designates; in a run,
 -- `found-by-display` and `found-by-links`.
 use Rattle.std.specs.Prelude.{ℕ, zero, suc, pred, ◌+◌, ◌*◌, ◌-◌, ◌/◌, ◌<◌, Bool, List, ◌≡◌, refl, ℤ, length, get_or}
 use Rattle.std.proofs.Common.{arith, ◌∙◌, eqb-true}

@@ -1,4 +1,4 @@
--- The answer of a run that has ended (`haltAnswer`), and what a call runs on once it is admitted (`AdmittedOn`).
+-- The answer of a run that has ended (`halt_answer`), and what a call runs on once it is admitted (`AdmittedOn`).
 use Rattle.std.specs.Prelude.{ℕ, List, ◌≡◌, ℤ, pos, replicate}
 use Rattle.language.specs.Call.{Engine, Fed}
 use Rattle.language.specs.Text.{Block}

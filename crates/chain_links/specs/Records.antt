@@ -1,4 +1,4 @@
--- The activation records in a lent slice, as the lists of crate `arrays`, of 256 activations: `blocksIn`, `nextsIn`, `linksIn`. `Linked`: from an activation,
+-- The activation records in a lent slice, as the lists of crate `arrays`, of 256 activations: `blocks_in`, `nexts_in`, `links_in`. `Linked`: from an activation,
 -- links can
 -- be followed; `hop-follows`: they lead where the lists' do. `Pushed`, `NextSet`: what a record that is written does to the lists.
 use Rattle.std.specs.Prelude.{ℕ, zero, suc, ◌+◌, ◌≤◌, ◌<◌, List, [], ◌∷◌, ◌≡◌, refl, eqb, length, get_or, set}

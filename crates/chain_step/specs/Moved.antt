@@ -1,4 +1,4 @@
--- A move as the engine goes on by it: what `came_to` makes of it (`movedBy`), what is read off that, and that it is what is read off the move.
+-- A move as the engine goes on by it: what `came_to` makes of it (`moved_by`), what is read off that, and that it is what is read off the move.
 use Rattle.std.specs.Prelude.{ℕ, Bool, true, false, List, ◌≡◌, refl, eqb, ℤ}
 use Rattle.std.proofs.lemmas.Bool.{false≢true}
 use Rattle.std.proofs.Common.{true≢false, sym, ap, ◌∙◌, eq-eqb, ne_eqb}

@@ -8,3 +8,4 @@ pub mod StmtLaws
 pub mod BlockLaws
 pub mod Loops
 pub mod Shapes
+pub mod Rows

@@ -26,6 +26,9 @@ use Rattle.check_blocks.proofs.DeclLaws.{decls-stop, own-stops, below-stops, dec
 use Rattle.check_bounds.proofs.HeadLaws.{own_at, judged-refused, head-taken}
 use Rattle.check_blocks.proofs.StmtLaws.{stmts-stop, stmt-stops, stmt-onward, stmts-more, stmts-none}
 
+less_none : (d : ℕ) → d - 0 ≡ d
+less_none d = omega arith
+
 fewer : (d i : ℕ) → i < d → d - i ≡ suc (d - (i + 1))
 fewer d i h = omega arith
 
@@ -36,6 +39,17 @@ none_left d i h = omega arith
 pub record DeclsLeft (body : BlockReader) (s d : ℕ) (seen bs : List ℕ) (start : ℕ) (names : List ℕ) (base held at i : ℕ) : Type 0 where
   pub onward : start ≤ at
   pub rest : forget (declarations body s d seen start (unread bs start)) ≡ forget (declarations body s (d - i) (names_at names base (held + i)) at (unread bs at))
+
+module _ (body : BlockReader) (s d : ℕ) (bs : List ℕ) (start base held : ℕ) where
+  pub decls-start : (names : List ℕ) → DeclsLeft body s d (names_at names base held) bs start names base held start 0
+  decls-start names =
+      record {
+        onward = omega arith;
+        rest = sym (ap (λ k. forget (declarations body s k (names_at names base (held + 0)) start (unread bs start))) (less_none d) ∙ ap (λ k. forget (declarations body s d (names_at names base k) start (unread bs start))) held_all);
+      }
+    where
+      held_all : held + 0 ≡ held
+      held_all = omega arith
 
 -- what the code's answers say: each law takes an answer, what it is equal to, and which it is
 module _ {body : BlockReader} {s d : ℕ} {seen bs : List ℕ} {start : ℕ} {names : List ℕ} {base held at i : ℕ} (h : AllTrack bs body) (l : DeclsLeft body s d seen bs start names base held at i) where
@@ -102,6 +116,13 @@ module _ {body : BlockReader} {s d : ℕ} {seen bs : List ℕ} {start : ℕ} {na
 pub record StmtsLeft (body : BlockReader) (s : ℕ) (bs : List ℕ) (start at i : ℕ) : Type 0 where
   pub onward : start ≤ at
   pub rest : forget (statements body s start (unread bs start)) ≡ forget (statements body (s - i) at (unread bs at))
+
+pub stmts-start : (body : BlockReader) (s : ℕ) (bs : List ℕ) (start : ℕ) → StmtsLeft body s bs start start 0
+stmts-start body s bs start =
+    record {
+      onward = omega arith;
+      rest = sym (ap (λ k. forget (statements body k start (unread bs start))) (less_none s));
+    }
 
 module _ {body : BlockReader} {s : ℕ} {bs : List ℕ} {start at i : ℕ} (h : AllTrack bs body) (l : StmtsLeft body s bs start at i) where
   abbrev all-stmts : Progress

@@ -1,1 +1,4 @@
 pub mod Cycles
+pub mod Walk
+pub mod Held
+pub mod Thin

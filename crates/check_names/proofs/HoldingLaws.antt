@@ -1,4 +1,4 @@
--- One formal held: what `held_of` and `namesWith` come to, and that the formals before it and this one go before those that are left. Assumes nothing.
+-- One formal held: what `held_of` and `names_with` come to, and that the formals before it and this one go before those that are left. Assumes nothing.
 use mathlib.Core.Path.{◌≡◌, refl, sym, ◌∙◌, ap, subst}
 use mathlib.Core.Bool.{Bool, true, false}
 use mathlib.Core.List.{List, []}

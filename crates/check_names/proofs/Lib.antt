@@ -3,3 +3,4 @@ pub mod SameNames
 pub mod KindTests
 pub mod FormalLaws
 pub mod HoldingLaws
+pub mod Rows

@@ -1,4 +1,4 @@
--- The record at an offset, at each place: the cases of `recordAt`.
+-- The record at an offset, at each place: the cases of `record_at`.
 -- Assumes nothing.
 use mathlib.Core.Path.{◌≡◌, sym, ◌∙◌, ap}
 use mathlib.Core.Bool.{Bool, false}

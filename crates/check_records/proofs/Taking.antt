@@ -29,7 +29,7 @@ pub fields-none : (o k at : ℕ) (ws : List ℕ) → length ws < k → fields o 
 unfolding fields
 fields-none o k at ws h = rw (ne_eqb (length (take k ws)) k (λ e. omega (arith, length-take k ws)), fields)
 
--- the row that `fit` gives is the one that `fitIn` tells of
+-- the row that `fit` gives is the one that `fit_in` tells of
 pub record Fitting {M : Type 0} (f : M → Mark) (w : ℕ) (rows : List (Row M)) (n : ℕ) (m : Mark) : Type 0 where
   pub row : Row M
   pub count-is : row.count ≡ n

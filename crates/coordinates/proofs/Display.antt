@@ -1,4 +1,4 @@
--- What a display must hold, as equations, for frames whose links go down. `displayOf fs` is the display of the innermost frame, `displayFrom
+-- What a display must hold, as equations, for frames whose links go down. `display_of fs` is the display of the innermost frame, `display_from
 -- fs k` that of frame k; entry j of either is the enclosing frame of level j.
 -- Entry: `display-entered` (the display of the new frame's link, and the new number), `display-after-block`, `display-after-call`.
 -- Return: `display-after-return` (the display of the frame below), `display-after-block-return`. Goto: `display-after-goto` (that of the label's frame).

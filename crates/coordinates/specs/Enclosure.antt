@@ -1,5 +1,5 @@
 -- Coordinates of a name, from the text alone. The enclosure of a place in a script is the list of the blocks around it, each with its
--- formals, innermost first; its level is its length, so the program's is 1. `coordinateOf` finds a name in it: the level of the block
+-- formals, innermost first; its level is its length, so the program's is 1. `coordinate_of` finds a name in it: the level of the block
 -- that declares it, and the name's position there. `Encloses t` says which lists are enclosures in the script t.
 use Rattle.std.specs.Prelude.{ℕ, suc, ◌-◌, List, [], ◌∷◌, ◌++◌, reverse, ◌≡◌, length}
 use Rattle.std.proofs.Math.Option.{Option, none, some}

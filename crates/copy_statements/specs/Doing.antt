@@ -1,5 +1,5 @@
 -- What a statement does, read from the innermost activation's copy: its mark and its fields are words of the area, and a name there is a new one
--- (`cellIn`). Beside the copy, the resolved script says only where a text ends, whether a called name is a formal as written, and of what kinds
+-- (`cell_in`). Beside the copy, the resolved script says only where a text ends, whether a called name is a formal as written, and of what kinds
 -- formals and arguments are. The names are those of `Acting`.
 use Rattle.std.specs.Prelude.{ℕ, zero, suc, ◌+◌, ◌*◌, ◌-◌, Bool, true, false, ◌&&◌, not, List, [], ◌∷◌, eqb, leb, ℤ, pos, get_or, set}
 use Rattle.language.specs.Basics.{eq_z}

@@ -1,5 +1,5 @@
 -- What each statement does to the frames, where its names are found. `act l s a` does the action a, whose names are designators;
--- `designates` and `actStmt` say how a statement of the text becomes one. Read each law as: where these tests and lookups come out
+-- `designates` and `act_stmt` say how a statement of the text becomes one. Read each law as: where these tests and lookups come out
 -- so, the action comes out so.
 use Rattle.std.specs.Prelude.{ℕ, pred, ◌≡◌, true, false, ◌&&◌, cond, leb, ltb, ℤ, pos, length, take}
 use Rattle.std.proofs.Math.Path.{refl, ap}

@@ -36,7 +36,7 @@ designates-most fs n h = go (designates fs n) (designates-target fs n h)
     go x (inl e) = omega arith
     go x (inr p) = points-most fs (length fs) x h p
 
--- at most `sheetShare` words for each frame
+-- at most `sheet_share` words for each frame
 sheet-words : (fs : List Frame) → ((k : ℕ) (f : Frame) → get_elem? fs k ≡ some f → length f.words ≤ 32) → length (frame_sheet fs) ≤ length fs * sheet_share
 unfolding frame_sheet
 sheet-words [] h = omega arith

@@ -1,5 +1,5 @@
 -- The parts of a stack or frame made from another, as equations: `parts` is the set of them for simp.
--- Read `withFrames-table` as: what is the table of `withFrames s fs`.
+-- Read `with_frames-table` as: what is the table of `with_frames s fs`.
 use Rattle.std.specs.Prelude.{ℕ, ◌+◌, ◌≡◌, refl, List, [], ◌∷◌, ◌++◌, map, ℤ, pos, length}
 use Rattle.std.proofs.Common.{◌∙◌, length-append}
 use Rattle.std.proofs.lemmas.List.{length-map}

@@ -1,7 +1,7 @@
 -- The frame machine runs as the copy rule does.
 --
 -- `RunsAsCopies` is the statement: whatever engine is called on whatever it is fed, the whole reply of the frame machine (answer,
--- sheet, table and list) is the reply of the copy-rule machine, refusals included. All of it but `frameReply` is of crate language, and
+-- sheet, table and list) is the reply of the copy-rule machine, refusals included. All of it but `frame_reply` is of crate language, and
 -- `Bytes` says that the script's elements are bytes, as those of a byte slice always are. Related.antt has the relation between the
 -- two machines' states, Steps.antt that a step keeps it.
 use Rattle.std.specs.Prelude.{◌≡◌}

@@ -1,5 +1,5 @@
 -- The rules of document 01 for a script, said of its tree and with no order in them. A reader of Exact.antt has to believe these definitions,
--- of `language` the tree (Text), `encode`, and of Scope `inside`, `kindIn` and `agree`, and of `laws` `Each` and `Distinct`.
+-- of `language` the tree (Text), `encode`, and of Scope `inside`, `kind_in` and `agree`, and of `laws` `Each` and `Distinct`.
 use Rattle.std.specs.Prelude.{ℕ, suc, ◌+◌, ◌*◌, ◌≤◌, ◌<◌, true, List, [], ◌∷◌, ◌++◌, map, ◌≡◌, length}
 use Rattle.std.proofs.Math.Option.{some}
 use Rattle.std.specs.Int.Signed.{mag}

@@ -1,5 +1,5 @@
 -- Request 3: the list of groups beside the membership table. Two words make a place, a group and the number of its members; a place that is
--- not in use is 0, 0. `listRight` says what a list must be, one property after the other, and `groupList` computes the list of a table.
+-- not in use is 0, 0. `list_right` says what a list must be, one property after the other, and `group_list` computes the list of a table.
 use Rattle.std.specs.Prelude.{ℕ, zero, suc, ◌*◌, ◌-◌, ◌/◌, Bool, true, false, not, ◌&&◌, ◌||◌, List, [], ◌∷◌, ◌++◌, leb, ℤ, pos, ◌+ℤ◌, length, take, drop, replicate}
 use Rattle.std.specs.Int.Signed.{lt_z}
 use Rattle.language.specs.Basics.{eq_z}
@@ -15,7 +15,7 @@ list_fits t ws = leb (list_words t) (length ws)
 
 -- What is right
 
--- a place of group 0 with members is in use, and `numbersTrue` shuts it out
+-- a place of group 0 with members is in use, and `numbers_true` shuts it out
 unfoldable pub in_use : ℤ → ℤ → Bool
 in_use g n = not (eq_z g (pos 0) && eq_z n (pos 0))
 

@@ -50,7 +50,7 @@ lent_tally = 100
 unfoldable pub lent_words : ℕ → ℕ → List ℤ
 lent_words i k = map pos (up_from (i + 7) k)
 
--- 35 is written out here, so that the rows judge `sheetShare`
+-- 35 is written out here, so that the rows judge `sheet_share`
 unfoldable pub lent_sheet : Sample → ℕ
 lent_sheet r = r.activations * 35 - r.short
 

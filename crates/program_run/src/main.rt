@@ -2,6 +2,7 @@
 #![tactic(auto)]
 
 ghost use Rattle.std.specs.Io.{ReadsAtMost};
+ghost use Rattle.std.specs.Prelude.{◌≡◌, length};
 
 use program_engines::{Engine, call, print_answer, print_words, read_full, say};
 use std::fs::File;
@@ -34,8 +35,9 @@ fn explain(rt: &(impl Eprint + AllocGlobal), error: io::Error) -> io::Result<()>
 }
 
 // Puts the script's bytes at the start of the room and gives their number. A file that cannot be opened or is too long is taken as one of length 0.
+// An error is a read's, or one of saying why there is no script, and leaves in the room what had come.
 fn read_script(rt: &(impl Files + Eprint + AllocGlobal), room: &mut [u8]) -> io::Result<usize>
-    ensures { ReadsAtMost result room.new }
+    ensures { (ReadsAtMost result room.new) × (length room.new ≡ length room.old) }
 {
     let mut file = match File::open(rt, "script.bin") {
         Ok(file) => file,

@@ -1,5 +1,5 @@
 -- Words for the names of a script, one for each of its fields: where a declaration has its name, that name's word; in a statement, the words that `action`
--- gives; in a BK, the looked-up name's; 0 in every other field, and in a formal's own record. `wordsLayout`: they are laid out as the fields are.
+-- gives; in a BK, the looked-up name's; 0 in every other field, and in a formal's own record. `words_layout`: they are laid out as the fields are.
 use Rattle.std.specs.Prelude.{ℕ, List, [], ◌∷◌, ◌++◌, map, ◌≡◌, refl, length}
 use Rattle.std.proofs.Common.{arith}
 use Rattle.std.proofs.lemmas.List.{length-map}

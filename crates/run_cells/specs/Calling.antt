@@ -1,4 +1,4 @@
--- A call, once the procedure is found: what it asks and what it comes to (`callMove`), and that this is what a CL does, be it of a declared procedure
+-- A call, once the procedure is found: what it asks and what it comes to (`call_move`), and that this is what a CL does, be it of a declared procedure
 -- (`call-move`) or through a formal (`call-formal-move`).
 use Rattle.std.specs.Prelude.{ℕ, ◌+◌, ◌≤◌, ◌<◌, Bool, List, ◌≡◌, leb, get_or}
 use Rattle.std.proofs.Math.Bool.{true, false}

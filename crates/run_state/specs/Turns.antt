@@ -1,5 +1,5 @@
 -- What a step says where a run ends with it: the program is left (`LeavesProgram`), or the statement has a cause to stop and nothing is written (`Stops`).
--- `pairsAfter`: the pairs in use once it is done.
+-- `pairs_after`: the pairs in use once it is done.
 use Rattle.std.specs.Prelude.{ℕ, zero, suc, ◌≤◌, List, ◌≡◌, refl, ℤ}
 use Rattle.std.proofs.Common.{arith}
 use Rattle.language.specs.Machine.{Limits}

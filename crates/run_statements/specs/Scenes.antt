@@ -1,4 +1,4 @@
--- A statement's function says what it does in a scene as far as it looks at it (`only-cells`, `sceneBy`). In the whole scene
+-- A statement's function says what it does in a scene as far as it looks at it (`only-cells`, `scene_by`). In the whole scene
 -- the statement comes to the same, and what it does not look at stays: `constant-same` and so on, a law for each. `done`: so it is with `acting`.
 use Prim.Native.Nat.{ℕ, zero, suc, ◌+◌}
 use native.Mathlib.Omega.{arith}

@@ -1,7 +1,7 @@
 -- The search in arrays. Activations are counted from 0; `blocks` has the place of each one's BK, `froms` where the search goes on after it, and `numbers` the
 -- number of the name whose word stands at a place of the resolved script. A number's block is a part of it, so that one comparison tells whether a block
 -- introduces a number that some block does. The program's activation is not asked: what no other introduces is there. What ends a search is any test of an
--- activation (`stopFrom`); that of a name is its number's block.
+-- activation (`stop_from`); that of a name is its number's block.
 use Prim.Native.Nat.{ℕ, zero, suc, ◌*◌, ◌/◌, ◌≤◌, ◌<◌}
 use Rattle.std.proofs.Common.{arith, sym, ap, ◌∙◌}
 use Rattle.std.specs.Prelude.{Bool, true, false, List, ◌≡◌, eqb, get_or}

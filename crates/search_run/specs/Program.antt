@@ -1,4 +1,4 @@
--- The run of a program: the engine's state as it begins (`startState`), what the run begins with (`Beginning`), and what it ends with (`Ended`), the frame
+-- The run of a program: the engine's state as it begins (`start_state`), what the run begins with (`Beginning`), and what it ends with (`Ended`), the frame
 -- machine's result with the arrays that hold its stack. The stack's links are not kept, and are a field here.
 use Rattle.std.specs.Prelude.{ℕ, List, ◌≡◌, ℤ, length, get_or, replicate}
 use Rattle.language.specs.Text.{Block}

@@ -1,5 +1,5 @@
 -- The arguments of a call. Words written one after the other: `written-length`, `written_below`, `written_at`. What is written
--- (`argumentsFrom`): `handed-at`, `handed-length`. Whether kinds agree: `kinds-agree`, from what stands before the body and at the arguments;
+-- (`arguments_from`): `handed-at`, `handed-length`. Whether kinds agree: `kinds-agree`, from what stands before the body and at the arguments;
 -- `declared-takes`: what the script check knows a procedure to take that is called by a name that is no formal.
 use Prim.Native.Nat.{ℕ, zero, suc, ◌+◌, ◌-◌, ◌*◌, ◌≤◌, ◌<◌}
 use native.Mathlib.Omega.{arith}

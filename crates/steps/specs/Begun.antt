@@ -1,5 +1,5 @@
 -- What every engine's run begins with (`Begun`): a program that keeps the rules, resolved; 1 to 256 activations; a table that is right by the limit of a
--- group; the cells of the program's own block at 0. `resultFrom`: what the frame machine comes to from there; `AtStart`: an engine that stands there.
+-- group; the cells of the program's own block at 0. `result_from`: what the frame machine comes to from there; `AtStart`: an engine that stands there.
 use Rattle.std.specs.Prelude.{ℕ, ◌≤◌, ◌<◌, true, List, ◌≡◌, ℤ, pos, length, get_or}
 use Rattle.language.specs.Text.{Block}
 use Rattle.language.specs.Table.{right}

@@ -1,5 +1,5 @@
 -- Two ways of finding names that are right: `finds-by-display`, where the display is that of the innermost activation, and `finds-by-links`.
--- `byFirst` is the way that has, by a name's word, the first cell of the activation that declares it. `Reaches`: what an engine may then
+-- `by_first` is the way that has, by a name's word, the first cell of the activation that declares it. `Reaches`: what an engine may then
 -- read of a name; `reached-by-display`, `reached-by-links`. Of any name, as the looked-up one: `unseen-word`, `seen-by-display`, `seen-by-links`.
 use Rattle.std.specs.Prelude.{ℕ, pred, ◌+◌, ◌*◌, ◌-◌, ◌<◌, false, List, ◌≡◌, ℤ, pos, length, get_or, set}
 use Rattle.std.proofs.Common.{arith, ap, ◌∙◌, le-ltb}

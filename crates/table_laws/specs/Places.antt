@@ -1,5 +1,5 @@
 -- The list of groups in natural numbers, group and number by turns (`places` below), since groups and numbers in use are at least 1.
--- `Tallies`: it is the list of the groups that have members by f; no two lists are (`one_list`). `oneMore` and `oneLess` are what one member
+-- `Tallies`: it is the list of the groups that have members by f; no two lists are (`one_list`). `one_more` and `one_less` are what one member
 -- more and one less make of it.
 use Prim.Native.Nat.{ℕ, zero, suc, pred, ◌+◌, ◌≤◌, ◌<◌}
 use native.Mathlib.Omega.{arith}

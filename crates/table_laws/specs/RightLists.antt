@@ -1,4 +1,4 @@
--- What `listRight` says of a lent list. `list-means`, `list-holds`: the words needed are places that the table's count gives, and zeros. So the list
+-- What `list_right` says of a lent list. `list-means`, `list-holds`: the words needed are places that the table's count gives, and zeros. So the list
 -- by its properties and the computed one agree (`right-is-computed`), only one list is right (`one_right`), and of every number, group or not, the
 -- list says what a full count says (`reads-count`).
 use Prim.Native.Nat.{ℕ, zero, suc, ◌+◌, ◌*◌, ◌-◌, ◌/◌, ◌≤◌, ◌<◌}
@@ -344,7 +344,7 @@ module _ (t : Table) (fits : 2 * t.used ≤ length t.words) (numbers : numbers_r
       last true r e i = let z : ◌≡◌ {A = ℕ} 0 1 = cc in absurd (omega arith)
       last false r e i = e
 
-  -- what `groupsThere` says of each pair's group
+  -- what `groups_there` says of each pair's group
   there-at : (k : ℕ) (ws : List ℤ) → 2 * k ≤ length ws → (l : List ℤ) → groups_there t k ws l ≡ true → (i : ℕ) → i < k → number_of (group_at i ws) l ≡ pos (size (group_at i ws) t)
   unfolding groups_there
   there-at zero ws f l e i h = absurd (omega arith)

@@ -1,5 +1,5 @@
--- Laws of `takeOut i k ws`, the pair at place i of the first k taken out: which word stands where afterwards, and how many members
--- are left. `takeOut-before`, `-after`, `-freed` and `-beyond` cover every word.
+-- Laws of `take_out i k ws`, the pair at place i of the first k taken out: which word stands where afterwards, and how many members
+-- are left. `take_out-before`, `-after`, `-freed` and `-beyond` cover every word.
 use Rattle.std.specs.Prelude.{ℕ, zero, suc, ◌+◌, ◌-◌, ◌*◌, ◌≤◌, ◌<◌, ◌≡◌, refl, Bool, true, false, cond, List, [], ◌∷◌, ◌++◌, ℤ, pos, length, get_or, take, drop}
 use Rattle.std.proofs.Common.{zero-le, arith, sym, ap, ◌∙◌, length-take, get_or-append-add, get_or-take, get_or-drop}
 use Rattle.std.proofs.Math.ListN.{get_or-append}

@@ -1,4 +1,4 @@
--- The list that `groupList` computes, in natural numbers: `tallied-places`. Of a table whose numbers are at least 1 it has the groups that a full
+-- The list that `group_list` computes, in natural numbers: `tallied-places`. Of a table whose numbers are at least 1 it has the groups that a full
 -- count finds, each with its number.
 use Rattle.std.specs.Prelude.{ℕ, zero, suc, ◌+◌, ◌*◌, ◌≤◌, ◌<◌, Bool, true, false, ◌&&◌, cond, List, [], ◌∷◌, ◌++◌, map, ◌≡◌, refl, eqb, ltb, ℤ, pos, negsuc, length}
 use Rattle.std.proofs.Common.{add-one, arith, sym, ap, ap₂, ◌∙◌, subst, eq-eqb, ne_eqb}

@@ -1,5 +1,5 @@
 -- A search for a key among slots goes from the key's own slot, its home, on to the next one until it meets an empty slot or the key.
--- `keyIn` gives the key of a slot's word, and `home_of` a key's home. A slot with the word 0 is empty.
+-- `key_in` gives the key of a slot's word, and `home_of` a key's home. A slot with the word 0 is empty.
 use Rattle.std.specs.Prelude.{ℕ, zero, suc, ◌+◌, ◌-◌, ◌≤◌, ◌<◌, ◌≡◌, refl, Bool, true, false, List, eqb, ltb, length, get_or, set, replicate}
 use Rattle.std.proofs.Common.{sym, ◌∙◌, ap, subst, arith, ltb-true, ltb-false, eqb-true, length-set, get_or-set_same, get_or-set_other}
 use Rattle.std.proofs.lemmas.Bool.{eqb-false}

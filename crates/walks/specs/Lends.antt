@@ -4,7 +4,8 @@
 --     lends_slice, back-slice      a `&mut [T]` as a `&mut [T]`.        shares-slice, unshares-slice     as a `&[T]`
 --     lends_ref, back-ref          a `&mut T` as a `&mut T`.            shares-ref, unshares-ref         as a `&T`
 --     Waits…           what waits meanwhile
---     shares-slice-by, shares-ref-by       the same of a type that has `denote.Shares`'s law at a lifetime l alone, with tokens ts of lifetimes within l, which come back
+--     shares-…-lent    the same by the one law of T that it needs.        shares-…-by      by `denote.Shares`'s law at a lifetime l, with tokens ts whose meet is
+--         within l, which come back: so of each declared type, also of one that can't be copied
 -- A `&T` is made by T's own law, so T is a `Row` there. A `&` has no ghost name, so there δ is any.
 -- Assumes `Logic`.
 use Rattle.std.specs.Prelude.{◌≡◌, refl, ℕ, List, [], ◌∷◌, length}
@@ -32,7 +33,7 @@ use denote.Slice.{slice_val, MutSlice, ShrSlice, heres, Room, mut_slice_at, shr_
 use denote.Lend.{Held, LentShrs, lends_slice as slice-lent, slice_back, lends_shr_slice, lends_shr, lends_free, lends_ref as ref-lent, ref_back}
 use denote.Lends.{Lent-map}
 use denote.Index.{row, whole_out, whole_in, opens_slice, closes_slice}
-use Rattle.walks.specs.Rows.{Row, rows-lent}
+use Rattle.walks.specs.Rows.{Row, LentWhole, rows-lent}
 use Rattle.walks.specs.Loans.{Loan, mut_ref, shr_ref, mut_slice, shr_slice, mut_at, shr_at, In, Out}
 
 abbrev pub relent : Loan → ℕ → GName → Loan
@@ -116,32 +117,37 @@ module _ {M : Type 1} {𝓤 : Ura M} {𝓛 : Logic 𝓤} {K : Type 0} {Γ : List
       await t z $ fsplit t $ drop t $
       use1 𝓛 (‵ (row R full_share zs h.block h.off)) (whole_out 𝓛 R zs h.block h.off) $ closed t z R h ys zs e $ s)
 
-module _ {M : Type 1} {𝓤 : Ura M} (𝓛 : Logic 𝓤) (R : Row) where
+module _ {M : Type 1} {𝓤 : Ura M} (𝓛 : Logic 𝓤) (R : RattleType) (ln : LentWhole 𝓛 R) where
   open 𝓛 use {H, A}
 
   -- the row of a slice, with what its machine value says, is lent
-  shared-slice : (κ : Lft) (ys : List R.type.Denot) (b o : ℕ) → Room R.type (length ys)
-      → ent 𝓤 (sem 𝓛 ((arr_parts (shares R.type) (length ys)).part full_share ys b o)) (H.⇛ (LentShrs 𝓛 R.type (named 0) κ full_share ys b o))
+  shared-slice : (κ : Lft) (ys : List R.Denot) (b o : ℕ) → Room R (length ys)
+      → ent 𝓤 (sem 𝓛 ((arr_parts (shares R) (length ys)).part full_share ys b o)) (H.⇛ (LentShrs 𝓛 R (named 0) κ full_share ys b o))
   shared-slice κ ys b o g =
-      let P : Fml = (arr_parts (shares R.type) (length ys)).part full_share ys b o in
-      qed 𝓛 (‵ P ∷ []) ∵ updating ! $ use1 𝓛 (later (‵ (fhide (elements_shared R.type ys b o κ)) ⊛ ‵ (flent κ P)))
-      (Lent-map 𝓛 P (row R.type full_share ys b o) (elements_shared R.type ys b o) (qed 𝓛 (‵ P ∷ []) ∵ fsplit ! $ drop ! $ done !)
-      (qed 𝓛 (‵ (row R.type full_share ys b o) ∷ []) ∵ feq_i ! ℕ (length ys) (length ys) refl $ done !)
-      (rows-lent 𝓛 R.type (R.lends M 𝓤 𝓛) ys b o) κ) $ await ! tt $ split ! $ now ! $ keep ! (0 ∷ 1 ∷ []) $
-      pure_i ! (shr_slice_at R.type (record { ref_ptr = (b, o); now = ys }) (slice_val (b, o) (length ys) ∷ [])) (tt, (tt, tt)) (refl, g) $ fjoin ! $ done !
+      let P : Fml = (arr_parts (shares R) (length ys)).part full_share ys b o in
+      qed 𝓛 (‵ P ∷ []) ∵ updating ! $ use1 𝓛 (later (‵ (fhide (elements_shared R ys b o κ)) ⊛ ‵ (flent κ P)))
+      (Lent-map 𝓛 P (row R full_share ys b o) (elements_shared R ys b o) (qed 𝓛 (‵ P ∷ []) ∵ fsplit ! $ drop ! $ done !)
+      (qed 𝓛 (‵ (row R full_share ys b o) ∷ []) ∵ feq_i ! ℕ (length ys) (length ys) refl $ done !)
+      (rows-lent 𝓛 R ln ys b o) κ) $ await ! tt $ split ! $ now ! $ keep ! (0 ∷ 1 ∷ []) $
+      pure_i ! (shr_slice_at R (record { ref_ptr = (b, o); now = ys }) (slice_val (b, o) (length ys) ∷ [])) (tt, (tt, tt)) (refl, g) $ fjoin ! $ done !
 
 module _ {M : Type 1} {𝓤 : Ura M} {𝓛 : Logic 𝓤} {K : Type 0} {Γ : List (Item 𝓤)} {G : Goal 𝓤 𝓛.H} where
+  pub shares-slice-lent : K → Soaks G → (R : RattleType) (L : RowLaws R) → LentWhole 𝓛 R → (h : Loan) (ys : List R.Denot)
+      → ((ν : ℕ) (δ : GName) → Seq K 𝓛 (‵ (In (shr_slice R L) (relent h ν δ) ys) ∷ ‵ (WaitsShared R h ys ν) ∷ Γ) G)
+      → Seq K 𝓛 (‵ (In (mut_slice R) h ys) ∷ Γ) G
+  shares-slice-lent t z R L ln h ys k =
+      opened t z R h ys (λ p. feq_i t ℕ (length ys) (length ys) refl $ fjoin t $ lft_new t z (λ ν. move t (1 ∷ []) $
+      use1 𝓛 (later (‵ ((ShrSlice (named 0) (ν ∷ []) R).own_val (shr_at h ys) (mut_slice_vals (mut_at h ys))) ⊛ ‵
+      (flent (ν ∷ []) ((arr_parts (shares R) (length ys)).part full_share ys h.block h.off))))
+      (shared-slice 𝓛 R ln (ν ∷ []) ys h.block h.off p.0) $ await t z $ split t $
+      -- [the slice; the lender's part; the new token; the open borrow]
+      rewrite t 0 (λ (vs : List Val). ‵ ((ShrSlice (named 0) (ν ∷ []) R).own_val (shr_at h ys) vs)) (sym p.1) refl $ move t (1 ∷ 3 ∷ []) $ fjoin t $
+      move t (1 ∷ 2 ∷ []) $ fjoin t $ k ν h.name))
+
   pub shares-slice : K → Soaks G → (R : Row) (h : Loan) (ys : List R.type.Denot)
       → ((ν : ℕ) (δ : GName) → Seq K 𝓛 (‵ (In (shr_slice R.type R.laws) (relent h ν δ) ys) ∷ ‵ (WaitsShared R.type h ys ν) ∷ Γ) G)
       → Seq K 𝓛 (‵ (In (mut_slice R.type) h ys) ∷ Γ) G
-  shares-slice t z R h ys k =
-      opened t z R.type h ys (λ p. feq_i t ℕ (length ys) (length ys) refl $ fjoin t $ lft_new t z (λ ν. move t (1 ∷ []) $
-      use1 𝓛 (later (‵ ((ShrSlice (named 0) (ν ∷ []) R.type).own_val (shr_at h ys) (mut_slice_vals (mut_at h ys))) ⊛ ‵
-      (flent (ν ∷ []) ((arr_parts (shares R.type) (length ys)).part full_share ys h.block h.off))))
-      (shared-slice 𝓛 R (ν ∷ []) ys h.block h.off p.0) $ await t z $ split t $
-      -- [the slice; the lender's part; the new token; the open borrow]
-      rewrite t 0 (λ (vs : List Val). ‵ ((ShrSlice (named 0) (ν ∷ []) R.type).own_val (shr_at h ys) vs)) (sym p.1) refl $ move t (1 ∷ 3 ∷ []) $ fjoin t $
-      move t (1 ∷ 2 ∷ []) $ fjoin t $ k ν h.name))
+  shares-slice t z R = shares-slice-lent t z R.type R.laws (R.lends M 𝓤 𝓛)
 
 module _ {M : Type 1} {𝓤 : Ura M} {𝓛 : Logic 𝓤} {K : Type 0} {Γ : List (Item 𝓤)} {G : Goal 𝓤 𝓛.H} where
   pub shares-slice-by : K → Soaks G → (R : RattleType) (L : RowLaws R) (l : Lft) → Shares 𝓛 R l → (ts : Toks) → Incl (span ts) l → (h : Loan) (ys : List R.Denot)
@@ -206,17 +212,22 @@ module _ {M : Type 1} {𝓤 : Ura M} {𝓛 : Logic 𝓤} {K : Type 0} {Γ : List
       use3 𝓛 (later (‵ ((mem R).own_at y h.block h.off))) (ref_back 𝓛 R (ν ∷ []) δ y h.block h.off) $ await t z $ closed-ref t z R h x y p $ s)
 
 module _ {M : Type 1} {𝓤 : Ura M} {𝓛 : Logic 𝓤} {K : Type 0} {Γ : List (Item 𝓤)} {G : Goal 𝓤 𝓛.H} where
+  pub shares-ref-lent : K → Soaks G → (R : RattleType) (L : RowLaws R) → LentWhole 𝓛 R → (h : Loan) (x : R.Denot)
+      → (h.val ∷ [] ≡ mut_vals (mut_at h x) → (ν : ℕ) (δ : GName) → Seq K 𝓛 (‵ (In (shr_ref R L) (relent h ν δ) x) ∷ ‵ (WaitsSharedRef R h x ν) ∷ Γ) G)
+      → Seq K 𝓛 (‵ (In (mut_ref R) h x) ∷ Γ) G
+  shares-ref-lent t z R L ln h x k =
+      opened-ref t z R h x (λ p. lft_new t z (λ ν. move t (1 ∷ []) $
+      use1 𝓛 (later (‵ ((ShrRef (named 0) (ν ∷ []) R).own_val (shr_at h x) (mut_vals (mut_at h x))) ⊛ ‵
+      (flent (ν ∷ []) (part_at R full_share x h.block h.off))))
+      (lends_free 𝓛 R (named 0) (ν ∷ []) full_share x h.block h.off (ln x h.block h.off)) $ await t z $ split t $
+      rewrite t 0 (λ (vs : List Val). ‵ ((ShrRef (named 0) (ν ∷ []) R).own_val (shr_at h x) vs)) (sym p) refl $ move t (1 ∷ 3 ∷ []) $ fjoin t $
+      move t (1 ∷ 2 ∷ []) $ fjoin t $ k p ν h.name))
+
   pub shares-ref : K → Soaks G → (R : Row) (h : Loan) (x : R.type.Denot)
       → (h.val ∷ [] ≡ mut_vals (mut_at h x) → (ν : ℕ) (δ : GName)
       → Seq K 𝓛 (‵ (In (shr_ref R.type R.laws) (relent h ν δ) x) ∷ ‵ (WaitsSharedRef R.type h x ν) ∷ Γ) G)
       → Seq K 𝓛 (‵ (In (mut_ref R.type) h x) ∷ Γ) G
-  shares-ref t z R h x k =
-      opened-ref t z R.type h x (λ p. lft_new t z (λ ν. move t (1 ∷ []) $
-      use1 𝓛 (later (‵ ((ShrRef (named 0) (ν ∷ []) R.type).own_val (shr_at h x) (mut_vals (mut_at h x))) ⊛ ‵
-      (flent (ν ∷ []) (part_at R.type full_share x h.block h.off))))
-      (lends_free 𝓛 R.type (named 0) (ν ∷ []) full_share x h.block h.off (R.lends M 𝓤 𝓛 x h.block h.off)) $ await t z $ split t $
-      rewrite t 0 (λ (vs : List Val). ‵ ((ShrRef (named 0) (ν ∷ []) R.type).own_val (shr_at h x) vs)) (sym p) refl $ move t (1 ∷ 3 ∷ []) $ fjoin t $
-      move t (1 ∷ 2 ∷ []) $ fjoin t $ k p ν h.name))
+  shares-ref t z R = shares-ref-lent t z R.type R.laws (R.lends M 𝓤 𝓛)
 
   pub shares-ref-by : K → Soaks G → (R : RattleType) (L : RowLaws R) (l : Lft) → Shares 𝓛 R l → (ts : Toks) → Incl (span ts) l → (h : Loan) (x : R.Denot)
       → (h.val ∷ [] ≡ mut_vals (mut_at h x) → (ν : ℕ) (δ : GName)
