@@ -12,7 +12,7 @@ use base.Fml.{Fml, Lft, Share}
 use types.Logic.{Logic, sem}
 use contract.Lifetimes.{Lfts, Shares}
 use contract.Monad.{fact}
-use denote.RattleType.{RattleType, Denots, Valss, owns}
+use denote.RattleType.{RattleType, Denots, Valss}
 use denote.Builtin.{u8}
 use denote.Plain.{uint_row_laws}
 use denote.Ref.{Bor}

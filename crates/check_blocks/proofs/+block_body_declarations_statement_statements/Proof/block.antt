@@ -7,7 +7,7 @@ use native.Mathlib.Omega.{arith}
 use mathlib.Core.List.{List, [], ◌∷◌}
 use lib.ListN.{length}
 use seplogic.Ra.Ura.{Ura}
-use mir.Syntax.{w8, w32, named}
+use mir.Syntax.{w8, named}
 use mir.Val.{Val}
 use base.Logic.{SProp, ent, via, id⊢}
 use base.Fml.{Lft, Share}
@@ -22,8 +22,6 @@ use sound.WpLaws.{WpFn-mono, fm_of}
 use denote.Builtin.{u8, u32}
 use denote.Ref.{Bor, MutBor}
 use denote.Plain.{uint_row_laws}
-use denote.Copied.{uint_Copied}
-use Rattle.walks.specs.Rows.{plain as plain-row}
 use denote.Slice.{Room, shr_slice_vals, mut_slice_vals, shr_slice_Tells, mut_slice_Tells}
 use denote.Signature.{plain}
 use denote.Triple.Entry.{on_entry}

@@ -9,7 +9,7 @@ use mathlib.Core.Option.{some, none}
 use lib.Dec.{ltb→lt}
 use lib.ListN.{length}
 use seplogic.Ra.Ura.{Ura}
-use mir.Syntax.{w8, w32, named, Ty}
+use mir.Syntax.{w8, named, Ty}
 use mir.Val.{Val, vstruct, vcons, vnil}
 use base.Logic.{SProp, ent, via, id⊢}
 use base.Fml.{Lft, Share}
@@ -25,8 +25,6 @@ use sound.WpLaws.{WpFn-mono, fm_of}
 use denote.Builtin.{u8, u32}
 use denote.Ref.{Bor, MutBor}
 use denote.Plain.{uint_row_laws}
-use denote.Copied.{uint_Copied}
-use Rattle.walks.specs.Rows.{plain as plain-row}
 use denote.Slice.{Room, shr_slice_vals, mut_slice_vals, shr_slice_Tells, mut_slice_Tells}
 use denote.Signature.{plain}
 use denote.Triple.Entry.{on_entry}
