@@ -5,7 +5,7 @@
 --         struct's or an enum's `&` is another, which the next have
 --     plain R L c      a type that can be copied (`denote.Copied`), with the `&` that it has.        declared_struct, declared_enum      so a declared type
 --         whose fields are
---     LentWhole R      a value in memory is lent as a `&` with no token.        rows-lent, rows-opened       of elements side by side, from one element's
+--     LentWhole R      a value in memory is lent as a `&` with no token.        rows-lent, rows-cut, rows-opened       of elements side by side, from one element's
 -- Assumes `Logic`.
 use Rattle.std.specs.Prelude.{ℕ, List, [], ◌∷◌, ◌+◌}
 use seplogic.Ra.Ura.{Ura}
@@ -86,12 +86,12 @@ module _ {M : Type 1} {𝓤 : Ura M} (𝓛 : Logic 𝓤) (R : RattleType) where
   rows-lent l (x ∷ xs) b o = Lent-both 𝓛 (part_at R full_share x b o) (row R full_share xs b (o + step)) (shared_of R x b o)
       (elements_shared R xs b (o + step)) (l x b o) (rows-lent l xs b (o + step))
 
-  module _ (cuts : (x : R.Denot) (b o : ℕ) → Cuts 𝓛 (λ q. part_at R q x b o)) (op : Opens 𝓛 R) where
-    rows-cut : (xs : List R.Denot) (b o : ℕ) → Cuts 𝓛 (λ q. row R q xs b o)
+  module _ (cuts : (x : R.Denot) (b o : ℕ) → Cuts 𝓛 (λ q. part_at R q x b o)) where
+    pub rows-cut : (xs : List R.Denot) (b o : ℕ) → Cuts 𝓛 (λ q. row R q xs b o)
     rows-cut [] b o = Cuts-nothing 𝓛
     rows-cut (x ∷ xs) b o = Cuts-both 𝓛 (λ q. part_at R q x b o) (λ q. row R q xs b (o + step)) (cuts x b o) (rows-cut xs b (o + step))
 
-    pub rows-opened : (xs : List R.Denot) (b o : ℕ) → Opened 𝓛 (λ q. row R q xs b o) (elements_shared R xs b o)
-    rows-opened [] b o = Opened-nothing 𝓛
-    rows-opened (x ∷ xs) b o = Opened-both 𝓛 (λ q. part_at R q x b o) (λ q. row R q xs b (o + step)) (shared_of R x b o)
-        (elements_shared R xs b (o + step)) (cuts x b o) (rows-cut xs b (o + step)) (op x b o).0 (rows-opened xs b (o + step))
+    pub rows-opened : Opens 𝓛 R → (xs : List R.Denot) (b o : ℕ) → Opened 𝓛 (λ q. row R q xs b o) (elements_shared R xs b o)
+    rows-opened op [] b o = Opened-nothing 𝓛
+    rows-opened op (x ∷ xs) b o = Opened-both 𝓛 (λ q. part_at R q x b o) (λ q. row R q xs b (o + step)) (shared_of R x b o)
+        (elements_shared R xs b (o + step)) (cuts x b o) (rows-cut xs b (o + step)) (op x b o).0 (rows-opened op xs b (o + step))
