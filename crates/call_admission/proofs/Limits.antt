@@ -1,12 +1,12 @@
 -- The limits one after another, and an area. Assumes nothing.
+use Rattle.std.specs.Prelude.{None, Some}
 use Prim.Native.Nat.{ℕ, ◌≤◌, ◌<◌}
 use mathlib.Core.Bool.{true, false}
 use mathlib.Core.Path.{◌≡◌}
 use lib.Dec.{leb}
 use borrow.Author.Tests.{le-leb, lt-leb}
 use Rattle.language.specs.Call.{Fed, limits_fit, holds_at_least}
-use Rattle.call_admission.specs.declared.Area.{Area}
-use Rattle.call_admission.specs.declared.Area.TheVariants.{Unused, Of}
+use Rattle.call_admission.specs.Lent.{Area}
 use Rattle.call_admission.specs.Lent.{held_in}
 
 module _ (f : Fed) where
@@ -40,10 +40,10 @@ module _ (f : Fed) where
           by-tally h =
               rw (le-leb 1 f.activations h1, le-leb f.activations 256 h2, le-leb f.allowance 1000000 h3, le-leb 1 f.limit h4, le-leb f.limit 65535 h)
 
-pub unused : (asked : ℕ) (area : Area) → area ≡ Unused → true ≡ holds_at_least asked (held_in area)
+pub unused : (asked : ℕ) (area : Area) → area ≡ None → true ≡ holds_at_least asked (held_in area)
 unfolding holds_at_least
 unused asked area e = rw e
 
-pub lent : (asked held : ℕ) (area : Area) → area ≡ Of held → leb asked held ≡ holds_at_least asked (held_in area)
+pub lent : (asked held : ℕ) (area : Area) → area ≡ Some held → leb asked held ≡ holds_at_least asked (held_in area)
 unfolding holds_at_least
 lent asked held area e = rw e

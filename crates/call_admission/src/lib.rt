@@ -7,15 +7,8 @@ ghost use Rattle.language.specs.Call.{limits_fit, holds_at_least, first_failing,
 ghost use Rattle.check_script.specs.Verdicts.{verdict_of};
 ghost use Rattle.call_admission.specs.Lent.{held_in, engine_of, fed_of, with_records, due_of, checked_then};
 
-use language::{Refusal, Verdict};
+use language::{Fault, Refusal};
 use layout::SHEET_SHARE;
-
-// What one engine alone is lent: so many activation records, or so many words of copying area.
-#[derive(Clone, Copy)]
-pub enum Area {
-    Unused,
-    Of(usize),
-}
 
 // A call's numbers: D, N, G, the caller's tally, the pairs in use in the table, and the name looked up.
 #[derive(Clone, Copy)]
@@ -49,12 +42,13 @@ fn limits_fit(numbers: CallNumbers) -> bool
     numbers.tally <= 1000000000000
 }
 
-fn holds_at_least(asked: usize, area: Area) -> bool
+// Whether an area that one engine alone is lent, if it uses one, has so many records or words.
+fn holds_at_least(asked: usize, area: Option<usize>) -> bool
     ensures { result ≡ holds_at_least asked (held_in area) }
 {
     match area {
-        Area::Unused => true,
-        Area::Of(held) => asked <= held,
+        None => true,
+        Some(held) => asked <= held,
     }
 }
 
@@ -64,40 +58,55 @@ fn before_check(
     table: &[i32],
     groups: &[i32],
     sheet: &[i32],
-    records: Area,
-) -> Verdict
+    records: Option<usize>,
+) -> Result<(), Fault>
     ensures { result ≡ due_of (first_failing (tests_before (with_records records) (fed_of numbers [] table.now groups.now sheet.now))) }
 {
     if !limits_fit(numbers) {
-        return Verdict::Refused(Refusal::LimitRange, 0);
+        return Err(Fault {
+            cause: Refusal::LimitRange,
+            offset: 0,
+        });
     }
     if sheet.len() < numbers.d as usize * SHEET_SHARE {
-        return Verdict::Refused(Refusal::AreaTooShort, 0);
+        return Err(Fault {
+            cause: Refusal::AreaTooShort,
+            offset: 0,
+        });
     }
     if !holds_at_least(numbers.d as usize, records) {
-        return Verdict::Refused(Refusal::AreaTooShort, 0);
+        return Err(Fault {
+            cause: Refusal::AreaTooShort,
+            offset: 0,
+        });
     }
     if groups.len() < 2 * (table.len() / 2) {
-        return Verdict::Refused(Refusal::AreaTooShort, 0);
+        return Err(Fault {
+            cause: Refusal::AreaTooShort,
+            offset: 0,
+        });
     }
     if !table_test::table_and_list_right(table, numbers.count, numbers.g, groups) {
-        return Verdict::Refused(Refusal::TableNotRight, 0);
+        return Err(Fault {
+            cause: Refusal::TableNotRight,
+            offset: 0,
+        });
     }
-    Verdict::Fit
+    Ok(())
 }
 
 // The script check and the copying area.
-fn check_and_after(script: &[u8], d: u32, area: Area) -> Verdict
+fn check_and_after(script: &[u8], d: u32, area: Option<usize>) -> Result<(), Fault>
     ensures { result ≡ checked_then script.now d (held_in area) }
 {
-    let verdict = check_script::check_script(script);
-    let Verdict::Fit = verdict else {
-        return verdict;
-    };
+    check_script::check_script(script)?;
     if !holds_at_least(d as usize * (script.len() / 2), area) {
-        return Verdict::Refused(Refusal::AreaTooShort, 0);
+        return Err(Fault {
+            cause: Refusal::AreaTooShort,
+            offset: 0,
+        });
     }
-    Verdict::Fit
+    Ok(())
 }
 
 pub fn admit(
@@ -106,14 +115,11 @@ pub fn admit(
     table: &[i32],
     groups: &[i32],
     sheet: &[i32],
-    records: Area,
-    area: Area,
-) -> Verdict
+    records: Option<usize>,
+    area: Option<usize>,
+) -> Result<(), Fault>
     ensures { (links : Bool) → result ≡ verdict_of (admission (engine_of records area links) (fed_of numbers script.now table.now groups.now sheet.now)) }
 {
-    let before = before_check(numbers, table, groups, sheet, records);
-    let Verdict::Fit = before else {
-        return before;
-    };
+    before_check(numbers, table, groups, sheet, records)?;
     check_and_after(script, numbers.d, area)
 }

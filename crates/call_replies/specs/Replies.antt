@@ -4,7 +4,7 @@
 -- Of its run: `ran-answer` and `ran-lent`, where the engine has of it what the frame machine's result has (`Ran`). `result-held`: arrays that hold the
 -- result's frames can be written as its sheet (crate run_sheet); `room-for-sheet`, `tally-fits`, `steps-fit`: there is room for it, the tally can be added
 -- to, and N is in range.
-use Rattle.std.specs.Prelude.{ℕ, ◌*◌, ◌≤◌, Bool, true, false, ◌&&◌, List, ◌≡◌, refl, leb, ℤ, length}
+use Rattle.std.specs.Prelude.{ℕ, ◌*◌, ◌≤◌, Bool, true, false, ◌&&◌, List, ◌≡◌, refl, leb, ℤ, length, Ok, Err}
 use Rattle.std.proofs.Common.{arith, ◌∙◌, leb-true}
 use Rattle.std.proofs.Math.Path.{sym, ap}
 use Rattle.language.specs.Sheet.{sheet_share}
@@ -16,8 +16,7 @@ use Rattle.language.specs.Call.{Engine, Lent, Fed, Reply, limits_of, limits_fit,
 use Rattle.language.specs.declared.Refusal.{Refusal}
 use Rattle.language.specs.declared.End.{End}
 use Rattle.language.specs.declared.Answer.{Answer}
-use Rattle.language.specs.declared.Verdict.{Verdict}
-use Rattle.language.specs.declared.Verdict.TheVariants.{Fit, Refused}
+use Rattle.language.specs.Faults.{fault, Verdict}
 use Rattle.laws.specs.Tests.{both}
 use Rattle.grammar.specs.Rules.{Bytes, Keeps}
 use Rattle.runs.specs.Admission.{Admitted, limits-fit, sheet-fits, sheet-lent, refused-exactly, accepted-exactly, admitted-accepted, leaves_all, leaves-length}
@@ -34,7 +33,7 @@ use Rattle.run_sheet.specs.Held.{Held}
 
 -- The verdict of admission
 
-verdict-refused : (k : Checked) (c : Refusal) (o : ℕ) → verdict_of k ≡ Refused c o → k ≡ refused c o
+verdict-refused : (k : Checked) (c : Refusal) (o : ℕ) → verdict_of k ≡ Err (fault c o) → k ≡ refused c o
 unfolding verdict_of
 verdict-refused (accepted t) c o q = let z : ◌≡◌ {A = ℕ} 0 1 = cc in absurd (omega arith)
 verdict-refused (refused d p) c o q =
@@ -42,28 +41,28 @@ verdict-refused (refused d p) c o q =
     let y : p ≡ o = cc in
     λ i. refused (x i) (y i)
 
-verdict-fit : (k : Checked) → verdict_of k ≡ Fit → (t : Block) × (k ≡ accepted t)
+verdict-fit : (k : Checked) → verdict_of k ≡ Ok tt → (t : Block) × (k ≡ accepted t)
 unfolding verdict_of
 verdict-fit (accepted t) q = (t, refl)
 verdict-fit (refused c o) q = let z : ◌≡◌ {A = ℕ} 0 1 = cc in absurd (omega arith)
 
 module _ (e : Engine) (f : Fed) where
-  pub refused-reply : (c : Refusal) (o : ℕ) → verdict_of (admission e f) ≡ Refused c o
+  pub refused-reply : (c : Refusal) (o : ℕ) → verdict_of (admission e f) ≡ Err (fault c o)
       → ((reply e f).answer ≡ refused_answer c o f.lent.table.used f.tally) × ((reply e f).lent ≡ f.lent)
   unfolding turned_away
   refused-reply c o q =
       let r = due-reply e f ((refused-exactly e f c o).0 (verdict-refused (admission e f) c o q)) in
       (ap (λ (x : Reply). x.answer) r, ap (λ (x : Reply). x.lent) r)
 
-  pub fit-admitted : verdict_of (admission e f) ≡ Fit → (t : Block) × Admitted e f t
+  pub fit-admitted : verdict_of (admission e f) ≡ Ok tt → (t : Block) × Admitted e f t
   fit-admitted q = let r = verdict-fit (admission e f) q in (r.0, (accepted-exactly e f r.0).0 r.1)
 
   -- as an engine's call has them: the verdict, and its answer
   module _ (v : Verdict) (verdict : v ≡ verdict_of (admission e f)) where
-    pub admitted-call : v ≡ Fit → (t : Block) × Admitted e f t
+    pub admitted-call : v ≡ Ok tt → (t : Block) × Admitted e f t
     admitted-call q = fit-admitted (sym verdict ∙ q)
 
-    pub refused-call : (c : Refusal) (o : ℕ) → v ≡ Refused c o → {answer : Answer} → answer ≡ refused_answer c o f.lent.table.used f.tally
+    pub refused-call : (c : Refusal) (o : ℕ) → v ≡ Err (fault c o) → {answer : Answer} → answer ≡ refused_answer c o f.lent.table.used f.tally
         → Answers e f answer f.lent.sheet f.lent.table.words f.lent.groups
     refused-call c o q a =
         let r = refused-reply c o (sym verdict ∙ q) in

@@ -12,10 +12,10 @@ ghost use Rattle.grammar.specs.Rules.{Bytes};
 ghost use Rattle.resolve_script.specs.Resolving.{Resolved};
 ghost use Rattle.chain_call.specs.Calls.{halt_answer, AdmittedOn};
 
-use call_admission::{Area, CallNumbers};
+use call_admission::CallNumbers;
 use call_answers::refused_answer;
 use chain_records::Activation;
-use language::{Answer, Verdict};
+use language::{Answer, Fault};
 use run_state::Halt;
 
 // What is due to a call that is lent so many records.
@@ -26,18 +26,10 @@ fn judged(
     groups: &[i32],
     sheet: &[i32],
     held: usize,
-) -> Verdict
+) -> Result<(), Fault>
     ensures { result ≡ verdict_of (admission (chain held) (fed_of numbers script.now table.now groups.now sheet.now)) }
 {
-    call_admission::admit(
-        script,
-        numbers,
-        table,
-        groups,
-        sheet,
-        Area::Of(held),
-        Area::Unused,
-    )
+    call_admission::admit(script, numbers, table, groups, sheet, Some(held), None)
 }
 
 fn activations_of(numbers: CallNumbers) -> usize
@@ -133,9 +125,8 @@ pub fn call(
     ensures { AnswersLeaving (chain (length records.old)) (fed_of numbers script.now table.old groups.old sheet.old)
         result sheet.new table.new groups.new records.old records.new }
 {
-    let verdict = judged(script, numbers, table, groups, sheet, records.len());
-    let Verdict::Refused(cause, offset) = verdict else {
-        return ran(script, numbers, table, groups, sheet, records);
-    };
-    refused_answer(cause, offset, numbers.count, numbers.tally)
+    match judged(script, numbers, table, groups, sheet, records.len()) {
+        Err(fault) => refused_answer(fault.cause, fault.offset, numbers.count, numbers.tally),
+        Ok(()) => ran(script, numbers, table, groups, sheet, records),
+    }
 }

@@ -7,8 +7,8 @@ use Rattle.std.proofs.Common.{◌∙◌, eq-eqb, ne_eqb}
 use Rattle.language.specs.Basics.{eq_z}
 use Rattle.language.specs.Text.{Operation, plus, minus, less}
 use Rattle.laws.specs.Tests.{split}
-use Rattle.run_moves.specs.declared.Effect.{Effect as Done-or-not}
-use Rattle.run_moves.specs.declared.Effect.TheVariants.{Done, Stopped}
+use Rattle.run_moves.specs.Effects.{Effect as Done-or-not}
+use Rattle.std.specs.Prelude.{Ok, Err}
 use Rattle.run_moves.specs.declared.Ask.{Ask}
 use Rattle.run_moves.specs.declared.Ask.TheVariants.{Add, Remove}
 use Rattle.run_moves.specs.declared.Move.TheVariants.{On, Stop}
@@ -56,8 +56,8 @@ module _ (F : Finding) (s : Scene) where
 
   arithmetic-goes : (e : Done-or-not) → is_entry (arithmetic_move F s e) ≡ true → ⊥
   unfolding arithmetic_move is_entry
-  arithmetic-goes Done z = false≢true z
-  arithmetic-goes (Stopped c) z = false≢true z
+  arithmetic-goes (Ok u) z = false≢true z
+  arithmetic-goes (Err c) z = false≢true z
 
   constant-goes : Entry (do_constant F s) → ⊥
   unfolding do_constant rewrites is_entry

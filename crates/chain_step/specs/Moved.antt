@@ -4,7 +4,7 @@ use Rattle.std.proofs.lemmas.Bool.{false≢true}
 use Rattle.std.proofs.Common.{true≢false, sym, ap, ◌∙◌, eq-eqb, ne_eqb}
 use Rattle.language.specs.Table.{Table}
 use Rattle.run_moves.specs.Acting.{Answer, answer}
-use Rattle.table_pairs.specs.declared.Change.{Change}
+use Rattle.table_pairs.specs.Outcomes.{Change}
 use Rattle.run_statements.specs.Answers.{Answered, turn_after}
 use Rattle.run_moves.specs.declared.Move.{Move}
 use Rattle.run_moves.specs.declared.Move.TheVariants.{On, Table as Asks, Jump, Enter, Stop}

@@ -1,7 +1,7 @@
 -- A step of the static-chain engine, by what the statement comes to (`Did`): the innermost activation stays so (`stays`), a block is entered (`enter-ready`,
 -- `entered_on`), or another activation goes on (`home_below`, `resumed-on`). At the end of its text it is left (`leave-ready`, `left-on`): the run is over
 -- (`finishes`), or the activation below goes on (`leaves-on`). The list stays beside the table (`left-keeps`, `stays-keeps`, `entered-keeps`, `resumed-keeps`).
-use Rattle.std.specs.Prelude.{ℕ, ◌-◌, ◌≤◌, ◌<◌, true, false, ◌≡◌, ℤ}
+use Rattle.std.specs.Prelude.{ℕ, ◌-◌, ◌≤◌, ◌<◌, true, false, ◌≡◌, ℤ, Ok, Err}
 use Rattle.std.proofs.Common.{arith, true≢false, sym, ap, ◌∙◌, eqb-true}
 use Rattle.std.proofs.lemmas.Bool.{false≢true}
 use mathlib.Core.List.{List}
@@ -9,8 +9,7 @@ use Rattle.std.proofs.Math.Path.{refl, subst}
 use Rattle.run_moves.specs.declared.Move.{Move}
 use Rattle.run_moves.specs.declared.Move.TheVariants.{On, Table as Asks, Jump, Enter, Stop}
 use Rattle.run_moves.specs.Acting.{scene_by, Happened, acting}
-use Rattle.table_pairs.specs.declared.Change.{Change}
-use Rattle.table_pairs.specs.declared.Change.TheVariants.{Done as Count, Stopped as Halted}
+use Rattle.table_pairs.specs.Outcomes.{Change}
 use Rattle.language.specs.declared.Stop.{Stop as Cause}
 use Rattle.frames.specs.Frame.{frame_step, halted}
 use Rattle.run_statements.specs.Answers.{Answered, turn_after, done-goes, stopped-halts}
@@ -179,8 +178,8 @@ module _ {code : List ℕ} {activations limit : ℕ} {cells : List ℤ} {records
 
     told-by : (c : Change) (cells'' table'' : List ℤ) → Told c cells'' table'' → Turned w (turn_after here k.place c) cells'' records table''
     unfolding turn_after
-    told-by (Count n) cells'' table'' h = goes cells'' table'' k.place n (done-goes st k.place _ means-told (Count n) cells'' table'' h n refl)
-    told-by (Halted c) cells'' table'' h = stops c cells'' table'' (stopped-halts st k.place _ means-told (Halted c) cells'' table'' h c refl)
+    told-by (Ok n) cells'' table'' h = goes cells'' table'' k.place n (done-goes st k.place _ means-told (Ok n) cells'' table'' h n refl)
+    told-by (Err c) cells'' table'' h = stops c cells'' table'' (stopped-halts st k.place _ means-told (Err c) cells'' table'' h c refl)
 
   -- The next statement
 

@@ -1,7 +1,7 @@
 // What a step comes to, from what the statement has come to. Nothing here looks into the records.
 ghost use Rattle.std.specs.Prelude.{◌≡◌, ◌+◌, ◌-◌, ◌≤◌, ◌<◌};
 ghost use Rattle.run_moves.specs.Acting.{answer};
-ghost use Rattle.table_pairs.specs.declared.Change.{Change as Changed};
+ghost use Rattle.table_pairs.specs.Outcomes.{Change as Changed};
 ghost use Rattle.table_laws.specs.Listing.{HasList, KeepsList};
 ghost use Rattle.table_pairs.specs.Outcomes.{table_of, change_of, count_after, words_after};
 ghost use Rattle.run_state.specs.Turns.{pairs_after};
@@ -17,7 +17,6 @@ use language::Stop;
 use run_moves::{Ask, Move};
 use run_state::{Registers, Turn};
 use run_statements::after;
-use table_pairs::Change;
 
 // The table is asked: where the run goes on, the cells of a group and a member, the one for the answer, and the question.
 #[derive(Clone, Copy)]
@@ -145,7 +144,7 @@ fn asked(
     member: usize,
     target: usize,
     ask: Ask,
-) -> Change
+) -> Result<usize, Stop>
     requires group_bound { (group < 8192) × ((member < 8192) × (target < 8192)) }
     requires has_list { HasList limit table.old pairs groups.old }
     ensures value { result ≡ change_of (answer limit cells.old (table_of table.old pairs) group member target ask).effect }

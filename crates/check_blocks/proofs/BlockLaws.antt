@@ -1,4 +1,6 @@
 -- A block after its BK, and a procedure's body after its formals. Assumes nothing.
+use Rattle.language.specs.Faults.{fault}
+use Rattle.std.specs.Prelude.{Ok, Err}
 use mathlib.Core.Path.{◌≡◌, refl, ◌∙◌, ap}
 use mathlib.Core.Bool.{Bool, true, false}
 use mathlib.Core.List.{List, []}
@@ -15,7 +17,6 @@ use Rattle.laws.specs.Readers.{bind-read, bind-refuse, passes, fails}
 use Rattle.check_marks.specs.declared.Mark.{Mark}
 use Rattle.check_marks.specs.declared.Mark.TheVariants.{BK}
 use Rattle.check_marks.specs.declared.Place.TheVariants.{Block as ABlock}
-use Rattle.check_records.specs.declared.Progress.TheVariants.{At, Refused}
 use Rattle.check_records.specs.declared.Reading.{Reading}
 use Rattle.check_records.specs.declared.Reading.TheVariants.{Taken}
 use Rattle.check_marks.specs.Marks.{only_mark}
@@ -27,7 +28,7 @@ use Rattle.check_blocks.specs.Progress.{body_of}
 use Rattle.check_blocks.proofs.Lands.{Landed, landed, turned-away, tracks-block, tracks-declarations}
 use Rattle.check_blocks.proofs.Forget.{forget-give}
 
-block-deep : (at d s : ℕ) (fs : List ℕ) (o : ℕ) (ws : List ℕ) → forget (block_with zero at d s fs o ws) ≡ Refused NestingDepth at
+block-deep : (at d s : ℕ) (fs : List ℕ) (o : ℕ) (ws : List ℕ) → forget (block_with zero at d s fs o ws) ≡ Err (fault NestingDepth at)
 unfolding block_with forget
 block-deep at d s fs o ws = refl
 
@@ -42,7 +43,7 @@ module _ (k at d s : ℕ) (fs : List ℕ) (bs : List ℕ) (next : ℕ) where
   unfolding block_with decls-of stmts-of
   opened = refl
 
-  block-many : 32 < length fs + d → forget (block_with (suc k) at d s fs next (unread bs next)) ≡ Refused TooManyNames at
+  block-many : 32 < length fs + d → forget (block_with (suc k) at d s fs next (unread bs next)) ≡ Err (fault TooManyNames at)
   unfolding forget
   block-many h = ap forget (opened ∙ fails _ TooManyNames at decls-of next (unread bs next) (lt-leb (length fs + d) 32 h))
 
@@ -52,11 +53,11 @@ module _ (k at d s : ℕ) (fs : List ℕ) (bs : List ℕ) (next : ℕ) where
   abbrev outcome : Outcome Decls
   outcome = declarations (block_with k) s d fs next (unread bs next)
 
-  pub block-stops : {c : Refusal} {o : ℕ} → length fs + d ≤ 32 → forget outcome ≡ Refused c o → forget (block_with (suc k) at d s fs next (unread bs next)) ≡ Refused c o
+  pub block-stops : {c : Refusal} {o : ℕ} → length fs + d ≤ 32 → forget outcome ≡ Err (fault c o) → forget (block_with (suc k) at d s fs next (unread bs next)) ≡ Err (fault c o)
   unfolding decls-of forget
   block-stops h e = ap forget (few h ∙ bind-refuse _ stmts-of next (unread bs next) (turned-away outcome e))
 
-  module _ {rest : ℕ} (e : forget outcome ≡ At rest) where
+  module _ {rest : ℕ} (e : forget outcome ≡ Ok rest) where
     there : Landed bs next rest outcome
     there = landed bs next rest outcome ((tracks-declarations bs (block_with k) (tracks-block bs k) s d fs).lands next) e
 
@@ -71,12 +72,12 @@ module _ (k at d s : ℕ) (fs : List ℕ) (bs : List ℕ) (next : ℕ) where
 
 -- a block whose own record is refused
 module _ (at d s : ℕ) (fs bs : List ℕ) (next : ℕ) {c : Refusal} {o : ℕ} where
-  pub block-unopened : (left : ℕ) → opened_of left at next d (length fs) ≡ Refused c o → forget (block_with left at d s fs next (unread bs next)) ≡ Refused c o
+  pub block-unopened : (left : ℕ) → opened_of left at next d (length fs) ≡ Err (fault c o) → forget (block_with left at d s fs next (unread bs next)) ≡ Err (fault c o)
   unfolding opened_of
   block-unopened zero e = block-deep at d s fs next (unread bs next) ∙ e
   block-unopened (suc k) e = go (leb (length fs + d) 32) refl
     where
-      go : (b : Bool) → leb (length fs + d) 32 ≡ b → forget (block_with (suc k) at d s fs next (unread bs next)) ≡ Refused c o
+      go : (b : Bool) → leb (length fs + d) 32 ≡ b → forget (block_with (suc k) at d s fs next (unread bs next)) ≡ Err (fault c o)
       go true h =
           let w = opened-fits at next d (length fs) (suc k) (λ z. omega arith) (leb-true (length fs + d) 32 h) in
           let z : ◌≡◌ {A = ℕ} 0 1 = cc in absurd (omega arith)

@@ -1,5 +1,6 @@
 -- The declarations of a block, one after the other, each with its own record and, of a procedure, its formals and body.
 -- Assumes nothing.
+use Rattle.std.specs.Prelude.{Ok, Err}
 use mathlib.Core.Path.{◌≡◌, refl, sym, ◌∙◌, ap, ap₂, subst}
 use mathlib.Core.Bool.{Bool, true, false, ◌&&◌}
 use mathlib.Core.List.{List, [], ◌∷◌}
@@ -14,8 +15,7 @@ use Rattle.language.specs.declared.Refusal.TheVariants.{FieldRange, TooManyNames
 use Rattle.laws.specs.Readers.{bind-read, bind-refuse, passes, fails}
 use Rattle.check_marks.specs.declared.Mark.{Mark}
 use Rattle.check_marks.specs.declared.Place.TheVariants.{Declaration}
-use Rattle.check_records.specs.declared.Progress.{Progress}
-use Rattle.check_records.specs.declared.Progress.TheVariants.{At, Refused}
+use Rattle.language.specs.Faults.{fault, Progress}
 use Rattle.check_records.specs.declared.Reading.{Reading}
 use Rattle.check_records.specs.declared.Reading.TheVariants.{Taken}
 use Rattle.check_marks.specs.Marks.{decl_mark}
@@ -37,14 +37,14 @@ same-mark is_pR = refl
 
 -- what comes after a passed test, or the refusal
 unfoldable pub go_on : Progress → Progress → Progress
-go_on (At from) p = p
-go_on (Refused c o) p = Refused c o
+go_on (Ok from) p = p
+go_on (Err e) p = Err e
 
-pub go_on-at : (x p : Progress) (from : ℕ) → x ≡ At from → go_on x p ≡ p
+pub go_on-at : (x p : Progress) (from : ℕ) → x ≡ Ok from → go_on x p ≡ p
 unfolding go_on
 go_on-at x p from e = ap (λ y. go_on y p) e
 
-pub go_on-refused : (x p : Progress) (c : Refusal) (o : ℕ) → x ≡ Refused c o → go_on x p ≡ Refused c o
+pub go_on-refused : (x p : Progress) (c : Refusal) (o : ℕ) → x ≡ Err (fault c o) → go_on x p ≡ Err (fault c o)
 unfolding go_on
 go_on-refused x p c o e = ap (λ y. go_on y p) e
 
@@ -75,23 +75,23 @@ module _ (body : BlockReader) (s : ℕ) (seen : List ℕ) (at : ℕ) (fs : List 
   tests-are m p b x e q = sym (ap₂ (λ p b. go_on (once_at p b at) x) e q)
 
   -- by the tests that the definitions make of the record itself
-  is-VR : (b : Bool) → among name seen ≡ b → forget (declared body s seen is_vR at fs next ws) ≡ go_on (own is_vR) (At next)
+  is-VR : (b : Bool) → among name seen ≡ b → forget (declared body s seen is_vR at fs next ws) ≡ go_on (own is_vR) (Ok next)
   unfolding declared ranged_of once_at go_on forget give
-  is-VR true e = ap forget (fails _ NameTwice at _ next ws (rw e)) ∙ tests-are is_vR (At next) true (At next) refl e
-  is-VR false e = ap forget (passes _ NameTwice at _ next ws (rw e)) ∙ tests-are is_vR (At next) false (At next) refl e
+  is-VR true e = ap forget (fails _ NameTwice at _ next ws (rw e)) ∙ tests-are is_vR (Ok next) true (Ok next) refl e
+  is-VR false e = ap forget (passes _ NameTwice at _ next ws (rw e)) ∙ tests-are is_vR (Ok next) false (Ok next) refl e
 
-  is-LB : (a b : Bool) → leb 1 second && leb second s ≡ a → among name seen ≡ b → forget (declared body s seen is_lB at fs next ws) ≡ go_on (own is_lB) (At next)
+  is-LB : (a b : Bool) → leb 1 second && leb second s ≡ a → among name seen ≡ b → forget (declared body s seen is_lB at fs next ws) ≡ go_on (own is_lB) (Ok next)
   unfolding declared once_at go_on forget give
   is-LB false b q e =
-      ap forget (fails _ FieldRange at _ next ws q) ∙ tests-are is_lB (Refused FieldRange at) b (At next) (ranged-no-label at next second s q) e
+      ap forget (fails _ FieldRange at _ next ws q) ∙ tests-are is_lB (Err (fault FieldRange at)) b (Ok next) (ranged-no-label at next second s q) e
   is-LB true true q e =
       ap forget (passes _ FieldRange at _ next ws q ∙ fails _ NameTwice at _ next ws (rw e))
-      ∙ tests-are is_lB (At next) true (At next) (ranged-label at next second s q) e
+      ∙ tests-are is_lB (Ok next) true (Ok next) (ranged-label at next second s q) e
   is-LB true false q e =
       ap forget (passes _ FieldRange at _ next ws q ∙ passes _ NameTwice at _ next ws (rw e))
-      ∙ tests-are is_lB (At next) false (At next) (ranged-label at next second s q) e
+      ∙ tests-are is_lB (Ok next) false (Ok next) (ranged-label at next second s q) e
 
-  ranged-PR : (a : Bool) (p : Progress) → leb second 32 ≡ a → elim a [ true ↦ At next | false ↦ Refused TooManyNames at ] ≡ p → ranged_of is_pR at next second s ≡ p
+  ranged-PR : (a : Bool) (p : Progress) → leb second 32 ≡ a → elim a [ true ↦ Ok next | false ↦ Err (fault TooManyNames at) ] ≡ p → ranged_of is_pR at next second s ≡ p
   unfolding ranged_of
   ranged-PR a p q e = rw (q, ranged_of) e
 
@@ -99,14 +99,14 @@ module _ (body : BlockReader) (s : ℕ) (seen : List ℕ) (at : ℕ) (fs : List 
   unfolding declared once_at go_on forget give procedure-text
   is-PR false b q e =
       ap forget (fails _ TooManyNames at _ next ws q)
-      ∙ tests-are is_pR (Refused TooManyNames at) b _ (ranged-PR false _ q refl) e
+      ∙ tests-are is_pR (Err (fault TooManyNames at)) b _ (ranged-PR false _ q refl) e
   is-PR true true q e =
       ap forget (passes _ TooManyNames at _ next ws q ∙ fails _ NameTwice at _ next ws (rw e))
-      ∙ tests-are is_pR (At next) true _ (ranged-PR true _ q refl) e
+      ∙ tests-are is_pR (Ok next) true _ (ranged-PR true _ q refl) e
   is-PR true false q e =
       ap forget (passes _ TooManyNames at _ next ws q ∙ passes _ NameTwice at _ next ws (rw e))
       ∙ forget-text body at name second next ws
-      ∙ tests-are is_pR (At next) false _ (ranged-PR true _ q refl) e
+      ∙ tests-are is_pR (Ok next) false _ (ranged-PR true _ q refl) e
 
   pub declared-is : (m : DeclMark) → forget (declared body s seen m at fs next ws) ≡ go_on (own m) (below_of body m second next ws)
   unfolding below_of
@@ -164,23 +164,23 @@ module _ (body : BlockReader) (s d : ℕ) (seen bs : List ℕ) (at : ℕ) (h : A
         declared-is body s seen st.taking.at st.taking.fields next (unread bs next) st.taking.mark
         ∙ renamed st.taking.mark (decl_mark_of m) st.taking.at (get_or st.taking.fields 0 0) (get_or st.taking.fields 1 0) st.at-is st.f0-is st.f1-is which
 
-    refused-by : {c : Refusal} {o : ℕ} → forget outcome ≡ Refused c o → declarations body s (suc d) seen at (unread bs at) ≡ refuse c o
+    refused-by : {c : Refusal} {o : ℕ} → forget outcome ≡ Err (fault c o) → declarations body s (suc d) seen at (unread bs at) ≡ refuse c o
     unfolding decl-after
     refused-by q = first ∙ bind-refuse _ more-decls next (unread bs next) (turned-away outcome q)
 
-    pub own-stops : {c : Refusal} {o : ℕ} → own-record ≡ Refused c o → declarations body s (suc d) seen at (unread bs at) ≡ refuse c o
+    pub own-stops : {c : Refusal} {o : ℕ} → own-record ≡ Err (fault c o) → declarations body s (suc d) seen at (unread bs at) ≡ refuse c o
     own-stops {c} {o} q = refused-by (outcome-is ∙ go_on-refused own-record _ c o q)
 
-    module _ {from : ℕ} (q : own-record ≡ At from) where
+    module _ {from : ℕ} (q : own-record ≡ Ok from) where
       below-is : forget outcome ≡ below_of body (decl_mark_of m) f1 from (unread bs from)
       below-is =
           outcome-is ∙ go_on-at own-record _ from q
           ∙ ap (λ k. below_of body (decl_mark_of m) f1 k (unread bs k)) (sym (own_at (decl_mark_of m) at next f1 s from (among f0 seen) q).0)
 
-      pub below-stops : {c : Refusal} {o : ℕ} → below_of body (decl_mark_of m) f1 from (unread bs from) ≡ Refused c o → declarations body s (suc d) seen at (unread bs at) ≡ refuse c o
+      pub below-stops : {c : Refusal} {o : ℕ} → below_of body (decl_mark_of m) f1 from (unread bs from) ≡ Err (fault c o) → declarations body s (suc d) seen at (unread bs at) ≡ refuse c o
       below-stops i = refused-by (below-is ∙ i)
 
-      module _ {end : ℕ} (i : below_of body (decl_mark_of m) f1 from (unread bs from) ≡ At end) where
+      module _ {end : ℕ} (i : below_of body (decl_mark_of m) f1 from (unread bs from) ≡ Ok end) where
         there : Landed bs next end outcome
         there =
             landed bs next end outcome
@@ -203,6 +203,6 @@ module _ (body : BlockReader) (s d : ℕ) (seen bs : List ℕ) (at : ℕ) (h : A
             ∙ forget-give (declarations body s d (decl_name there.value ∷ seen)) end (unread bs end) (decl there.value)
             ∙ ap (λ n. forget (declarations body s d (n ∷ seen) end (unread bs end))) (name-is there.value there.reads)
 
-pub decls-none : (body : BlockReader) (s : ℕ) (seen : List ℕ) (at : ℕ) (ws : List ℕ) → forget (declarations body s zero seen at ws) ≡ At at
+pub decls-none : (body : BlockReader) (s : ℕ) (seen : List ℕ) (at : ℕ) (ws : List ℕ) → forget (declarations body s zero seen at ws) ≡ Ok at
 unfolding declarations give forget
 decls-none body s seen at ws = refl

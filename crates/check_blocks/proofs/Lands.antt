@@ -1,5 +1,7 @@
 -- Every reader of a script's structure goes forward by whole fields and leaves what stands from its end on: so an offset says all that
 -- the code has to hold of what is unread. Assumes nothing.
+use Rattle.language.specs.Faults.{fault}
+use Rattle.std.specs.Prelude.{Ok, Err}
 use mathlib.Core.Path.{◌≡◌, refl, ◌∙◌}
 use mathlib.Core.Bool.{Bool, true, false}
 use mathlib.Core.List.{List, []}
@@ -10,7 +12,6 @@ use lib.ListN.{length}
 use Rattle.language.specs.Structure.{Reading as Outcome, read, refuse, Reader, ◌>>=◌, ◌>>◌, give, require, fields, Row, Record, DeclMark, is_vR, is_lB, is_pR, StmtMark, is_bK, is_cL, is_gO, is_iF, is_kN, is_aR, is_aD, is_rM, is_qY, take-record, kind, operation, formals, BlockReader, declared, declarations, action, stated, statements, block_with}
 use Rattle.language.specs.declared.Refusal.{Refusal}
 use Rattle.laws.specs.Readers.{bind-read, bind-refuse}
-use Rattle.check_records.specs.declared.Progress.TheVariants.{At, Refused}
 use Rattle.check_records.specs.Taking.{unread, forget}
 use Rattle.check_records.proofs.Unread.{unread-drop}
 use Rattle.check_records.proofs.Taking.{fields-all, fields-none}
@@ -31,14 +32,14 @@ pub record Landed {A : Type 0} (bs : List ℕ) (at next : ℕ) (x : Outcome A) :
   pub onward : at ≤ next
   pub even : next % 2 ≡ at % 2
 
-pub landed : {A : Type 0} (bs : List ℕ) (at next : ℕ) (x : Outcome A) → Lands bs at x → forget x ≡ At next → Landed bs at next x
+pub landed : {A : Type 0} (bs : List ℕ) (at next : ℕ) (x : Outcome A) → Lands bs at x → forget x ≡ Ok next → Landed bs at next x
 unfolding forget
 landed bs at next (read a o ws) l e =
     let h : o ≡ next = cc in
     record { value = a; reads = cc; onward = rw h at l.1; even = rw h at l.2 }
 landed bs at next (refuse c o) l e = let z : ◌≡◌ {A = ℕ} 0 1 = cc in absurd (omega arith)
 
-pub turned-away : {A : Type 0} {c : Refusal} {o : ℕ} (x : Outcome A) → forget x ≡ Refused c o → x ≡ refuse c o
+pub turned-away : {A : Type 0} {c : Refusal} {o : ℕ} (x : Outcome A) → forget x ≡ Err (fault c o) → x ≡ refuse c o
 unfolding forget
 turned-away (read a p ws) e = let z : ◌≡◌ {A = ℕ} 0 1 = cc in absurd (omega arith)
 turned-away (refuse d p) e = cc

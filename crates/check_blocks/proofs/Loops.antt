@@ -1,4 +1,5 @@
 -- Where the loops over a block's declarations and statements stand: what is left to read goes on as the whole does. Assumes nothing.
+use Rattle.std.specs.Prelude.{Ok, Err}
 use mathlib.Core.Path.{◌≡◌, refl, sym, ◌∙◌, ap}
 use mathlib.Core.List.{List, [], ◌∷◌, ◌++◌}
 use Prim.Native.Nat.{ℕ, suc, ◌+◌, ◌-◌, ◌<◌, ◌≤◌}
@@ -9,8 +10,7 @@ use Rattle.language.specs.Structure.{refuse, Reader, BlockReader, declarations, 
 use Rattle.language.specs.declared.Refusal.{Refusal}
 use Rattle.check_marks.specs.declared.Mark.{Mark}
 use Rattle.check_marks.specs.declared.Place.TheVariants.{Declaration, Statement}
-use Rattle.check_records.specs.declared.Progress.{Progress}
-use Rattle.check_records.specs.declared.Progress.TheVariants.{At, Refused}
+use Rattle.language.specs.Faults.{fault, Progress}
 use Rattle.check_records.specs.declared.Reading.{Reading}
 use Rattle.check_records.specs.declared.Reading.TheVariants.{Taken, Refused as Untaken}
 use Rattle.check_records.specs.Taking.{unread, record_at, progress_of, forget}
@@ -63,11 +63,11 @@ module _ {body : BlockReader} {s d : ℕ} {seen bs : List ℕ} {start : ℕ} {na
     one_of : all-decls ≡ forget (declarations body s (suc (d - (i + 1))) names-so-far at (unread bs at))
     one_of = l.rest ∙ ap (λ k. forget (declarations body s k names-so-far at (unread bs at))) (fewer d i more)
 
-    ends : {c : Refusal} {o : ℕ} → declarations body s (suc (d - (i + 1))) names-so-far at (unread bs at) ≡ refuse c o → Refused c o ≡ all-decls
+    ends : {c : Refusal} {o : ℕ} → declarations body s (suc (d - (i + 1))) names-so-far at (unread bs at) ≡ refuse c o → Err (fault c o) ≡ all-decls
     unfolding forget
     ends e = sym (one_of ∙ ap forget e)
 
-    refused_as : {c : Refusal} {o : ℕ} (r : Reading) → record_at Declaration bs at ≡ r → headed r at s names-so-far ≡ Untaken c o → Refused c o ≡ all-decls
+    refused_as : {c : Refusal} {o : ℕ} (r : Reading) → record_at Declaration bs at ≡ r → headed r at s names-so-far ≡ Untaken c o → Err (fault c o) ≡ all-decls
     unfolding headed
     refused_as (Taken m next f0 f1 f2 f3) e q =
         ends (own-stops body s (d - (i + 1)) names-so-far bs at h e (judged-refused _ m next f0 f1 f2 f3 q))
@@ -77,17 +77,17 @@ module _ {body : BlockReader} {s d : ℕ} {seen bs : List ℕ} {start : ℕ} {na
     head-refused f g e = e ∙ ap progress_of g ∙ refused_as (record_at Declaration bs at) refl (sym f ∙ g)
 
     module _ {x : Reading} {m : Mark} {next f0 f1 f2 f3 : ℕ} (f : x ≡ heading_at bs at s names-so-far) (g : x ≡ Taken m next f0 f1 f2 f3) where
-      took : (record_at Declaration bs at ≡ Taken m next f0 f1 f2 f3) × (once_at (ranged_of (decl_mark_of m) at next f1 s) (among f0 names-so-far) at ≡ At next)
+      took : (record_at Declaration bs at ≡ Taken m next f0 f1 f2 f3) × (once_at (ranged_of (decl_mark_of m) at next f1 s) (among f0 names-so-far) at ≡ Ok next)
       took = head-taken at s names-so-far (record_at Declaration bs at) (sym f ∙ g)
 
       pub few-formals : FewFormals (decl_mark_of m) f1
       few-formals = (own_at (decl_mark_of m) at next f1 s next (among f0 names-so-far) took.1).1
 
       module _ {r : Progress} (e : r ≡ below_of body (decl_mark_of m) f1 next (unread bs next)) where
-        pub below-refused : {c : Refusal} {o : ℕ} → r ≡ Refused c o → r ≡ all-decls
+        pub below-refused : {c : Refusal} {o : ℕ} → r ≡ Err (fault c o) → r ≡ all-decls
         below-refused q = q ∙ ends (below-stops body s (d - (i + 1)) names-so-far bs at h took.0 took.1 (sym e ∙ q))
 
-        pub decls-again : {end : ℕ} (names' : List ℕ) → r ≡ At end → at ≤ next → names_at names' base (held + i) ≡ names-so-far → base + (held + i) < length names' → DeclsLeft body s d seen bs start (set names' (base + (held + i)) f0) base held end (i + 1)
+        pub decls-again : {end : ℕ} (names' : List ℕ) → r ≡ Ok end → at ≤ next → names_at names' base (held + i) ≡ names-so-far → base + (held + i) < length names' → DeclsLeft body s d seen bs start (set names' (base + (held + i)) f0) base held end (i + 1)
         decls-again {end} names' q go kept room =
             record {
               onward =
@@ -109,7 +109,7 @@ module _ {body : BlockReader} {s d : ℕ} {seen bs : List ℕ} {start : ℕ} {na
                 ap (names_at (set names' (base + (held + i)) f0) base) one_more
                 ∙ names-added names' base (held + i) f0 room ∙ ap (λ ns. ns ++ (f0 ∷ [])) kept
 
-  pub decls-end : d ≤ i → At at ≡ all-decls
+  pub decls-end : d ≤ i → Ok at ≡ all-decls
   decls-end h = sym (l.rest ∙ ap (λ k. forget (declarations body s k names-so-far at (unread bs at))) (none_left d i h) ∙ decls-none body s names-so-far at (unread bs at))
 
 -- i of s statements read
@@ -132,7 +132,7 @@ module _ {body : BlockReader} {s : ℕ} {bs : List ℕ} {start at i : ℕ} (h : 
     one-stmt : all-stmts ≡ forget (statements body (suc (s - (i + 1))) at (unread bs at))
     one-stmt = l.rest ∙ ap (λ k. forget (statements body k at (unread bs at))) (fewer s i more)
 
-    stmts-ends : {c : Refusal} {o : ℕ} → statements body (suc (s - (i + 1))) at (unread bs at) ≡ refuse c o → Refused c o ≡ all-stmts
+    stmts-ends : {c : Refusal} {o : ℕ} → statements body (suc (s - (i + 1))) at (unread bs at) ≡ refuse c o → Err (fault c o) ≡ all-stmts
     unfolding forget
     stmts-ends e = sym (one-stmt ∙ ap forget e)
 
@@ -140,10 +140,10 @@ module _ {body : BlockReader} {s : ℕ} {bs : List ℕ} {start at i : ℕ} (h : 
     stmt-refused {c = c} {o} f g e = e ∙ ap progress_of g ∙ stmts-ends (stmts-stop body (s - (i + 1)) bs at h c o (sym f ∙ g))
 
     module _ {x : Reading} {m : Mark} {next f0 f1 f2 f3 : ℕ} (f : x ≡ record_at Statement bs at) (g : x ≡ Taken m next f0 f1 f2 f3) {r : Progress} (e : r ≡ stated_of body (stmt_mark_of m) at f0 f1 next (unread bs next)) where
-      pub inner-refused : {c : Refusal} {o : ℕ} → r ≡ Refused c o → r ≡ all-stmts
+      pub inner-refused : {c : Refusal} {o : ℕ} → r ≡ Err (fault c o) → r ≡ all-stmts
       inner-refused q = q ∙ stmts-ends (stmt-stops body (s - (i + 1)) bs at h (sym f ∙ g) (sym e ∙ q))
 
-      pub stmts-again : {end : ℕ} → r ≡ At end → at ≤ next → StmtsLeft body s bs start end (i + 1)
+      pub stmts-again : {end : ℕ} → r ≡ Ok end → at ≤ next → StmtsLeft body s bs start end (i + 1)
       stmts-again q go =
           record {
             onward =
@@ -152,5 +152,5 @@ module _ {body : BlockReader} {s : ℕ} {bs : List ℕ} {start at i : ℕ} (h : 
             rest = one-stmt ∙ stmts-more body (s - (i + 1)) bs at h (sym f ∙ g) (sym e ∙ q);
           }
 
-  pub stmts-end : s ≤ i → At at ≡ all-stmts
+  pub stmts-end : s ≤ i → Ok at ≡ all-stmts
   stmts-end h = sym (l.rest ∙ ap (λ k. forget (statements body k at (unread bs at))) (none_left s i h) ∙ stmts-none body at (unread bs at))

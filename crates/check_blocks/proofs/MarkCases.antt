@@ -1,4 +1,5 @@
 -- A mark by its case: what comes after a declaration's own record, and what a statement is. Assumes nothing.
+use Rattle.std.specs.Prelude.{Ok}
 use mathlib.Core.Path.{◌≡◌, refl, sym, ◌∙◌, ap, subst}
 use mathlib.Core.List.{List, []}
 use Prim.Native.Nat.{ℕ, ◌≤◌}
@@ -7,8 +8,7 @@ use lib.Dec.{T}
 use Rattle.language.specs.Structure.{BlockReader, DeclMark, is_vR, is_lB, is_pR, StmtMark, is_bK, is_cL, is_gO, is_iF, is_kN, is_aR, is_aD, is_rM, is_qY}
 use Rattle.check_marks.specs.declared.Mark.{Mark}
 use Rattle.check_marks.specs.declared.Mark.TheVariants.{BK, VR, LB, PR, FM, CL, GO, IF, KN, AR, AD, RM, QY}
-use Rattle.check_records.specs.declared.Progress.{Progress}
-use Rattle.check_records.specs.declared.Progress.TheVariants.{At}
+use Rattle.language.specs.Faults.{Progress}
 use Rattle.check_records.specs.Taking.{forget}
 use Rattle.check_bounds.specs.Marks.{decl_mark_of, stmt_mark_of}
 use Rattle.check_bounds.specs.Judging.{action_of, FewFormals}
@@ -71,7 +71,7 @@ few-formals p m e f = subst (λ x. FewFormals (decl_mark_of x) p) e f
 never : ◌≡◌ {A = Bool} true false → ⊥
 never e = subst T e tt
 
-pub plain-below : (body : BlockReader) (p at : ℕ) (ws : List ℕ) (k : DeclMark) → plain_of k ≡ true → At at ≡ below_of body k p at ws
+pub plain-below : (body : BlockReader) (p at : ℕ) (ws : List ℕ) (k : DeclMark) → plain_of k ≡ true → Ok at ≡ below_of body k p at ws
 unfolding below_of
 plain-below body p at ws is_vR e = refl
 plain-below body p at ws is_lB e = refl

@@ -1,4 +1,5 @@
 -- A block and a procedure's body in the shape of the code: levels counted down, names by their base. Assumes nothing.
+use Rattle.std.specs.Prelude.{Ok, Err}
 use mathlib.Core.Path.{◌≡◌, sym, ◌∙◌, ap, ap₂, subst}
 use mathlib.Core.List.{List, []}
 use Prim.Native.Nat.{ℕ, suc, ◌+◌, ◌-◌, ◌≤◌}
@@ -10,8 +11,7 @@ use Rattle.language.specs.declared.Refusal.{Refusal}
 use Rattle.check_marks.specs.declared.Mark.{Mark}
 use Rattle.check_marks.specs.declared.Mark.TheVariants.{PR}
 use Rattle.check_marks.specs.declared.Place.TheVariants.{Block}
-use Rattle.check_records.specs.declared.Progress.{Progress}
-use Rattle.check_records.specs.declared.Progress.TheVariants.{At, Refused}
+use Rattle.language.specs.Faults.{fault, Progress}
 use Rattle.check_records.specs.declared.Reading.{Reading}
 use Rattle.check_records.specs.declared.Reading.TheVariants.{Taken}
 use Rattle.check_records.specs.Taking.{unread, record_at, progress_of, forget}
@@ -37,7 +37,7 @@ module _ (bs names : List ℕ) (left at d s held next : ℕ) (room : base_of lef
   counted : length fs ≡ held
   counted = names-length names (base_of left) held room
 
-  pub unopened : {r : Progress} {c : Refusal} {o : ℕ} → r ≡ opened_of left at next d held → r ≡ Refused c o → r ≡ whole
+  pub unopened : {r : Progress} {c : Refusal} {o : ℕ} → r ≡ opened_of left at next d held → r ≡ Err (fault c o) → r ≡ whole
   unopened e q = q ∙ sym (block-unopened at d s fs bs next left (ap (opened_of left at next d) counted ∙ (sym e ∙ q)))
 
   module _ {first : ℕ} (p : Passed left next d held first) where
@@ -63,12 +63,12 @@ module _ (bs names : List ℕ) (left at d s held next : ℕ) (room : base_of lef
     same-level : inner ≡ declarations (block_with (left - 1)) s d fs next (unread bs next)
     same-level = ap₂ (λ k o. declarations (block_with (left - 1)) s d (names_at names (base_of k) held) o (unread bs o)) level p.from_is
 
-    pub decls-refused : {r : Progress} {c : Refusal} {o : ℕ} → r ≡ forget inner → r ≡ Refused c o → r ≡ whole
+    pub decls-refused : {r : Progress} {c : Refusal} {o : ℕ} → r ≡ forget inner → r ≡ Err (fault c o) → r ≡ whole
     decls-refused e q =
         q ∙ sym (downward ∙ block-stops (left - 1) at d s fs bs next few (sym (ap forget same-level) ∙ (sym e ∙ q)))
 
-    module _ {r : Progress} {rest : ℕ} (e : r ≡ forget inner) (q : r ≡ At rest) where
-      inner-at : forget (declarations (block_with (left - 1)) s d fs next (unread bs next)) ≡ At rest
+    module _ {r : Progress} {rest : ℕ} (e : r ≡ forget inner) (q : r ≡ Ok rest) where
+      inner-at : forget (declarations (block_with (left - 1)) s d fs next (unread bs next)) ≡ Ok rest
       inner-at = sym (ap forget same-level) ∙ (sym e ∙ q)
 
       pub rest-onward : next ≤ rest
@@ -88,11 +88,11 @@ module _ (body : BlockReader) (p : ℕ) (bs : List ℕ) (start : ℕ) (m : Mark)
   below-is : forget (body_of body p start (unread bs start)) ≡ below
   below-is = body_below body p start (unread bs start) m is-PR
 
-  pub formals-refused : {r : Progress} {c : Refusal} {o : ℕ} → r ≡ forget first → r ≡ Refused c o → r ≡ below
+  pub formals-refused : {r : Progress} {c : Refusal} {o : ℕ} → r ≡ forget first → r ≡ Err (fault c o) → r ≡ below
   unfolding forget
   formals-refused e q = q ∙ sym (ap forget (body-stops body p bs start (turned-away first (sym e ∙ q)))) ∙ below-is
 
-  module _ {r : Progress} {at : ℕ} (e : r ≡ forget first) (q : r ≡ At at) where
+  module _ {r : Progress} {at : ℕ} (e : r ≡ forget first) (q : r ≡ Ok at) where
     there : Landed bs start at first
     there = landed bs start at first ((tracks-formals bs p []).lands start) (sym e ∙ q)
 

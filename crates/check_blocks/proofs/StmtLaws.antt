@@ -1,4 +1,6 @@
 -- The statements of a block, one after the other. Assumes nothing.
+use Rattle.language.specs.Faults.{fault}
+use Rattle.std.specs.Prelude.{Ok, Err}
 use mathlib.Core.Path.{◌≡◌, refl, sym, ◌∙◌, ap}
 use mathlib.Core.Bool.{Bool, true, false}
 use mathlib.Core.List.{List, []}
@@ -15,7 +17,6 @@ use Rattle.language.specs.declared.Refusal.TheVariants.{FieldRange}
 use Rattle.laws.specs.Readers.{bind-read, bind-refuse, passes, fails}
 use Rattle.check_marks.specs.declared.Mark.{Mark}
 use Rattle.check_marks.specs.declared.Place.TheVariants.{Statement}
-use Rattle.check_records.specs.declared.Progress.TheVariants.{At, Refused}
 use Rattle.check_records.specs.declared.Reading.{Reading}
 use Rattle.check_records.specs.declared.Reading.TheVariants.{Taken}
 use Rattle.check_marks.specs.Marks.{stmt_mark}
@@ -110,11 +111,11 @@ module _ (body : BlockReader) (s : ℕ) (bs : List ℕ) (at : ℕ) (h : AllTrack
         stated-is body st.taking.at st.taking.fields next (unread bs next) st.taking.mark
         ∙ renamed st.taking.mark (stmt_mark_of m) st.taking.at (get_or st.taking.fields 0 0) (get_or st.taking.fields 1 0) st.at-is st.f0-is st.f1-is which
 
-    pub stmt-stops : {c : Refusal} {o : ℕ} → stated_of body (stmt_mark_of m) at f0 f1 next (unread bs next) ≡ Refused c o → statements body (suc s) at (unread bs at) ≡ refuse c o
+    pub stmt-stops : {c : Refusal} {o : ℕ} → stated_of body (stmt_mark_of m) at f0 f1 next (unread bs next) ≡ Err (fault c o) → statements body (suc s) at (unread bs at) ≡ refuse c o
     unfolding stmt-after
     stmt-stops q = first ∙ bind-refuse _ more-stmts next (unread bs next) (turned-away outcome (outcome-is ∙ q))
 
-    module _ {end : ℕ} (q : stated_of body (stmt_mark_of m) at f0 f1 next (unread bs next) ≡ At end) where
+    module _ {end : ℕ} (q : stated_of body (stmt_mark_of m) at f0 f1 next (unread bs next) ≡ Ok end) where
       there : Landed bs next end outcome
       there = landed bs next end outcome ((tracks-stated bs body h st.taking.mark st.taking.at st.taking.fields).lands next) (outcome-is ∙ q)
 
@@ -127,6 +128,6 @@ module _ (body : BlockReader) (s : ℕ) (bs : List ℕ) (at : ℕ) (h : AllTrack
           ap forget (first ∙ bind-read _ more-stmts next (unread bs next) there.reads)
           ∙ forget-give (statements body s) end (unread bs end) (stmt there.value)
 
-pub stmts-none : (body : BlockReader) (at : ℕ) (ws : List ℕ) → forget (statements body zero at ws) ≡ At at
+pub stmts-none : (body : BlockReader) (at : ℕ) (ws : List ℕ) → forget (statements body zero at ws) ≡ Ok at
 unfolding statements give forget
 stmts-none body at ws = refl

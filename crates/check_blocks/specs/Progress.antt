@@ -1,9 +1,8 @@
 -- The definitions' readers of a block with the tree forgotten, as the code's enums have it.
-use Rattle.std.specs.Prelude.{ℕ, ◌*◌, ◌-◌, Bool, true, false, List, [], get_or}
+use Rattle.std.specs.Prelude.{ℕ, ◌*◌, ◌-◌, Bool, true, false, List, [], get_or, Ok}
 use Rattle.language.specs.Text.{Block, formal_names}
 use Rattle.language.specs.Structure.{Reader, ◌>>=◌, DeclMark, is_vR, is_lB, is_pR, StmtMark, is_bK, is_cL, is_gO, is_iF, is_kN, is_aR, is_aD, is_rM, is_qY, block_marks, take-record, formals, BlockReader}
-use Rattle.check_records.specs.declared.Progress.{Progress}
-use Rattle.check_records.specs.declared.Progress.TheVariants.{At}
+use Rattle.language.specs.Faults.{Progress}
 use Rattle.check_records.specs.Taking.{forget}
 use Rattle.check_bounds.specs.Judging.{action_of}
 
@@ -20,8 +19,8 @@ body_of body p = do
 
 -- what comes after a declaration's own record
 unfoldable pub below_of : BlockReader → DeclMark → ℕ → ℕ → List ℕ → Progress
-below_of body is_vR p at ws = At at
-below_of body is_lB p at ws = At at
+below_of body is_vR p at ws = Ok at
+below_of body is_lB p at ws = Ok at
 below_of body is_pR p at ws = forget (body_of body p at ws)
 
 unfoldable pub stated_of : BlockReader → StmtMark → ℕ → ℕ → ℕ → ℕ → List ℕ → Progress

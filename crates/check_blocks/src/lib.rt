@@ -16,7 +16,8 @@ use check_bounds::MOST_NAMES;
 use check_bounds::declaration::fit;
 use check_fields::Reader;
 use check_marks::Mark;
-use check_records::{Progress, Reading};
+use check_records::Reading;
+use language::Fault;
 
 // Blocks inside each other, the program's own among them.
 pub const LEVELS: usize = 16;
@@ -55,19 +56,13 @@ pub fn block(
     s: usize,
     held: usize,
     left: usize,
-) -> Progress
+) -> Result<usize, Fault>
     requires { (left ≤ 16) × (held ≤ 32) × (length names.old ≡ 544) }
     ensures reads { result ≡ forget (block_with left at d s (names_at names.old (base_of left) held) next (unread script.now next)) }
     ensures keeps { take (base_of left) names.new ≡ take (base_of left) names.old }
 {
-    let opened = check_bounds::block::opened(at, next, d, held, left);
-    let Progress::At(first) = opened else {
-        return opened;
-    };
-    let declared = declarations(script, names, first, d, s, held, left - 1);
-    let Progress::At(rest) = declared else {
-        return declared;
-    };
+    let first = check_bounds::block::opened(at, next, d, held, left)?;
+    let rest = declarations(script, names, first, d, s, held, left - 1)?;
     statements(script, names, rest, s, left - 1)
 }
 
@@ -81,7 +76,7 @@ fn declarations(
     s: usize,
     held: usize,
     below: usize,
-) -> Progress
+) -> Result<usize, Fault>
     requires { (below ≤ 15) × (held + d ≤ 32) × (length names.old ≡ 544) }
     ensures reads { result ≡ forget (all_declared (block_with below) s d (names_at names.old (base_of (below + 1)) held) at (unread script.now at)) }
     ensures keeps { take (base_of (below + 1)) names.new ≡ take (base_of (below + 1)) names.old }
@@ -95,19 +90,13 @@ fn declarations(
         let Reading::Taken { mark, f0, f1, .. } = reading else {
             return check_records::onward(reading);
         };
-        let judged = fit(names, reader.at, reading, s, base, count);
-        let Progress::At(next) = judged else {
-            return judged;
-        };
-        let after = body(script, names, mark, next, f1 as usize, below);
-        let Progress::At(end) = after else {
-            return after;
-        };
+        let next = fit(names, reader.at, reading, s, base, count)?;
+        let end = body(script, names, mark, next, f1 as usize, below)?;
         names[base + count] = f0;
         reader.at = end;
         i += 1;
     }
-    Progress::At(reader.at)
+    Ok(reader.at)
 }
 
 // What comes after a declaration's own record: a procedure's formals and body, and nothing after another's.
@@ -119,19 +108,16 @@ fn body(
     start: usize,
     p: usize,
     below: usize,
-) -> Progress
+) -> Result<usize, Fault>
     requires { (below ≤ 15) × FewFormals (decl_mark_of mark) p × (length names.old ≡ 544) }
     ensures reads { result ≡ below_of (block_with below) (decl_mark_of mark) p start (unread script.now start) }
     ensures keeps { take (base_of below) names.new ≡ take (base_of below) names.old }
 {
     if bodiless(mark) {
-        return Progress::At(start);
+        return Ok(start);
     }
     let base = MOST_NAMES * (LEVELS - below);
-    let formals = check_names::formals::read_formals(script, names, start, p, base);
-    let Progress::At(at) = formals else {
-        return formals;
-    };
+    let at = check_names::formals::read_formals(script, names, start, p, base)?;
     let reading = check_readers::read_block(script, at);
     let Reading::Taken { next, f0, f1, .. } = reading else {
         return check_records::onward(reading);
@@ -141,7 +127,13 @@ fn body(
 
 // s statements, handed out by one reader.
 #[cycle(block_body_declarations_statement_statements)]
-fn statements(script: &[u8], names: &mut [u32], at: usize, s: usize, below: usize) -> Progress
+fn statements(
+    script: &[u8],
+    names: &mut [u32],
+    at: usize,
+    s: usize,
+    below: usize,
+) -> Result<usize, Fault>
     requires { (below ≤ 15) × (length names.old ≡ 544) }
     ensures reads { result ≡ forget (all_stated (block_with below) s at (unread script.now at)) }
     ensures keeps { take (base_of below) names.new ≡ take (base_of below) names.old }
@@ -160,7 +152,7 @@ fn statements(script: &[u8], names: &mut [u32], at: usize, s: usize, below: usiz
         else {
             return check_records::onward(reading);
         };
-        let after = statement(
+        reader.at = statement(
             script,
             names,
             mark,
@@ -169,14 +161,10 @@ fn statements(script: &[u8], names: &mut [u32], at: usize, s: usize, below: usiz
             f0 as usize,
             f1 as usize,
             below,
-        );
-        let Progress::At(end) = after else {
-            return after;
-        };
-        reader.at = end;
+        )?;
         i += 1;
     }
-    Progress::At(reader.at)
+    Ok(reader.at)
 }
 
 // A statement whose record has been taken: a block inside, or an action.
@@ -190,7 +178,7 @@ fn statement(
     f0: usize,
     f1: usize,
     below: usize,
-) -> Progress
+) -> Result<usize, Fault>
     requires { (below ≤ 15) × (next ≤ length script.now) × (length names.old ≡ 544) }
     ensures reads { result ≡ stated_of (block_with below) (stmt_mark_of mark) at f0 f1 next (unread script.now next) }
     ensures keeps { take (base_of below) names.new ≡ take (base_of below) names.old }

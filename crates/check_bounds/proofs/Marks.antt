@@ -1,4 +1,5 @@
 -- A mark by its case: which of the definitions' marks it is, and what that says of the record's own fields. Assumes nothing.
+use Rattle.std.specs.Prelude.{Ok, Err}
 use mathlib.Core.Path.{◌≡◌, refl, sym, ◌∙◌, ap, ap₂}
 use mathlib.Core.Bool.{true, false, ◌&&◌}
 use mathlib.Core.List.{List}
@@ -10,26 +11,25 @@ use Rattle.language.specs.Structure.{fields, is_lB, is_pR, is_cL, is_aR}
 use Rattle.language.specs.declared.Refusal.TheVariants.{FieldRange, TooManyNames}
 use Rattle.check_marks.specs.declared.Mark.{Mark}
 use Rattle.check_marks.specs.declared.Mark.TheVariants.{BK, VR, LB, PR, FM, CL, GO, IF, KN, AR, AD, RM, QY}
-use Rattle.check_records.specs.declared.Progress.{Progress}
-use Rattle.check_records.specs.declared.Progress.TheVariants.{At, Refused}
+use Rattle.language.specs.Faults.{fault, Progress}
 use Rattle.check_records.specs.Taking.{forget}
 use Rattle.check_bounds.specs.Marks.{decl_mark_of, stmt_mark_of}
 use Rattle.check_bounds.specs.Judging.{ranged_of, action_of}
 
 module _ (at next f1 s : ℕ) where
-  pub ranged-label : leb 1 f1 && leb f1 s ≡ true → ranged_of is_lB at next f1 s ≡ At next
+  pub ranged-label : leb 1 f1 && leb f1 s ≡ true → ranged_of is_lB at next f1 s ≡ Ok next
   unfolding ranged_of
   ranged-label e = rw (e, ranged_of)
 
-  pub ranged-no-label : leb 1 f1 && leb f1 s ≡ false → ranged_of is_lB at next f1 s ≡ Refused FieldRange at
+  pub ranged-no-label : leb 1 f1 && leb f1 s ≡ false → ranged_of is_lB at next f1 s ≡ Err (fault FieldRange at)
   unfolding ranged_of
   ranged-no-label e = rw (e, ranged_of)
 
-  pub ranged-few : f1 ≤ 32 → ranged_of is_pR at next f1 s ≡ At next
+  pub ranged-few : f1 ≤ 32 → ranged_of is_pR at next f1 s ≡ Ok next
   unfolding ranged_of
   ranged-few h = rw (le-leb f1 32 h, ranged_of)
 
-  pub ranged-many : 32 < f1 → ranged_of is_pR at next f1 s ≡ Refused TooManyNames at
+  pub ranged-many : 32 < f1 → ranged_of is_pR at next f1 s ≡ Err (fault TooManyNames at)
   unfolding ranged_of
   ranged-many h = rw (lt-leb f1 32 h, ranged_of)
 
@@ -43,23 +43,23 @@ module _ (at next f1 s : ℕ) {m : Mark} where
   unfolding decl_mark_of
   as-procedure e q = sym (ap (λ x. ranged_of (decl_mark_of x) at next f1 s) e ∙ q)
 
-  pub label-zero : m ≡ LB → f1 ≡ 0 → Refused FieldRange at ≡ ranged_of (decl_mark_of m) at next f1 s
+  pub label-zero : m ≡ LB → f1 ≡ 0 → Err (fault FieldRange at) ≡ ranged_of (decl_mark_of m) at next f1 s
   label-zero e z = as-label e (ranged-no-label at next f1 s (ap (λ b. b && leb f1 s) (lt-leb 1 f1 (omega arith))))
 
-  pub label-past : m ≡ LB → (f1 ≡ 0 → ⊥) → s < f1 → Refused FieldRange at ≡ ranged_of (decl_mark_of m) at next f1 s
+  pub label-past : m ≡ LB → (f1 ≡ 0 → ⊥) → s < f1 → Err (fault FieldRange at) ≡ ranged_of (decl_mark_of m) at next f1 s
   label-past e z h = as-label e (ranged-no-label at next f1 s (ap₂ ◌&&◌ (le-leb 1 f1 (omega arith)) (lt-leb f1 s h)))
 
-  pub label-fits : m ≡ LB → (f1 ≡ 0 → ⊥) → f1 ≤ s → At next ≡ ranged_of (decl_mark_of m) at next f1 s
+  pub label-fits : m ≡ LB → (f1 ≡ 0 → ⊥) → f1 ≤ s → Ok next ≡ ranged_of (decl_mark_of m) at next f1 s
   label-fits e z h = as-label e (ranged-label at next f1 s (ap₂ ◌&&◌ (le-leb 1 f1 (omega arith)) (le-leb f1 s h)))
 
-  pub formals-fit : m ≡ PR → f1 ≤ 32 → At next ≡ ranged_of (decl_mark_of m) at next f1 s
+  pub formals-fit : m ≡ PR → f1 ≤ 32 → Ok next ≡ ranged_of (decl_mark_of m) at next f1 s
   formals-fit e h = as-procedure e (ranged-few at next f1 s h)
 
-  pub formals-many : m ≡ PR → 32 < f1 → Refused TooManyNames at ≡ ranged_of (decl_mark_of m) at next f1 s
+  pub formals-many : m ≡ PR → 32 < f1 → Err (fault TooManyNames at) ≡ ranged_of (decl_mark_of m) at next f1 s
   formals-many e h = as-procedure e (ranged-many at next f1 s h)
 
 -- a mark that is neither LB nor PR
-pub others-fit : (at next f1 s : ℕ) (m : Mark) → (m ≡ LB → ⊥) → (m ≡ PR → ⊥) → At next ≡ ranged_of (decl_mark_of m) at next f1 s
+pub others-fit : (at next f1 s : ℕ) (m : Mark) → (m ≡ LB → ⊥) → (m ≡ PR → ⊥) → Ok next ≡ ranged_of (decl_mark_of m) at next f1 s
 unfolding ranged_of decl_mark_of
 others-fit at next f1 s BK h g = refl
 others-fit at next f1 s VR h g = refl
@@ -80,15 +80,15 @@ module _ (o f1 at : ℕ) (ws : List ℕ) where
   unfolding action_of
   action-few h = rw (le-leb f1 32 h, action_of)
 
-  pub action-many : 32 < f1 → action_of is_cL o f1 at ws ≡ Refused FieldRange o
+  pub action-many : 32 < f1 → action_of is_cL o f1 at ws ≡ Err (fault FieldRange o)
   unfolding action_of
   action-many h = rw (lt-leb f1 32 h, action_of)
 
-  pub action-known : f1 ≤ 2 → action_of is_aR o f1 at ws ≡ At at
+  pub action-known : f1 ≤ 2 → action_of is_aR o f1 at ws ≡ Ok at
   unfolding action_of
   action-known h = rw (le-leb f1 2 h, action_of)
 
-  pub action-unknown : 2 < f1 → action_of is_aR o f1 at ws ≡ Refused FieldRange o
+  pub action-unknown : 2 < f1 → action_of is_aR o f1 at ws ≡ Err (fault FieldRange o)
   unfolding action_of
   action-unknown h = rw (lt-leb f1 2 h, action_of)
 
@@ -105,17 +105,17 @@ module _ (o f1 at : ℕ) (ws : List ℕ) {m : Mark} where
   pub call_fits : m ≡ CL → f1 ≤ 32 → forget (fields o f1 at ws) ≡ action_of (stmt_mark_of m) o f1 at ws
   call_fits e h = as_call e (action-few o f1 at ws h)
 
-  pub call-many : m ≡ CL → 32 < f1 → Refused FieldRange o ≡ action_of (stmt_mark_of m) o f1 at ws
+  pub call-many : m ≡ CL → 32 < f1 → Err (fault FieldRange o) ≡ action_of (stmt_mark_of m) o f1 at ws
   call-many e h = as_call e (action-many o f1 at ws h)
 
-  pub operation-fits : m ≡ AR → f1 ≤ 2 → At at ≡ action_of (stmt_mark_of m) o f1 at ws
+  pub operation-fits : m ≡ AR → f1 ≤ 2 → Ok at ≡ action_of (stmt_mark_of m) o f1 at ws
   operation-fits e h = as-arithmetic e (action-known o f1 at ws h)
 
-  pub operation-none : m ≡ AR → 2 < f1 → Refused FieldRange o ≡ action_of (stmt_mark_of m) o f1 at ws
+  pub operation-none : m ≡ AR → 2 < f1 → Err (fault FieldRange o) ≡ action_of (stmt_mark_of m) o f1 at ws
   operation-none e h = as-arithmetic e (action-unknown o f1 at ws h)
 
 -- a mark that is neither CL nor AR
-pub others-pass : (o f1 at : ℕ) (ws : List ℕ) (m : Mark) → (m ≡ CL → ⊥) → (m ≡ AR → ⊥) → At at ≡ action_of (stmt_mark_of m) o f1 at ws
+pub others-pass : (o f1 at : ℕ) (ws : List ℕ) (m : Mark) → (m ≡ CL → ⊥) → (m ≡ AR → ⊥) → Ok at ≡ action_of (stmt_mark_of m) o f1 at ws
 unfolding action_of stmt_mark_of
 others-pass o f1 at ws BK h g = refl
 others-pass o f1 at ws VR h g = refl

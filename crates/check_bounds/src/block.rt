@@ -3,21 +3,29 @@ ghost use Rattle.std.specs.Prelude.{◌≡◌};
 ghost use Rattle.check_bounds.specs.Judging.{opened_of};
 
 use super::MOST_NAMES;
-use check_records::Progress;
-use language::Refusal;
+use language::{Fault, Refusal};
 
 // d declarations are to come beside the names held for formals.
-pub fn opened(at: usize, next: usize, d: usize, held: usize, left: usize) -> Progress
+pub fn opened(at: usize, next: usize, d: usize, held: usize, left: usize) -> Result<usize, Fault>
     ensures { result ≡ opened_of left at next d held }
 {
     if left == 0 {
-        return Progress::Refused(Refusal::NestingDepth, at);
+        return Err(Fault {
+            cause: Refusal::NestingDepth,
+            offset: at,
+        });
     }
     if MOST_NAMES < d {
-        return Progress::Refused(Refusal::TooManyNames, at);
+        return Err(Fault {
+            cause: Refusal::TooManyNames,
+            offset: at,
+        });
     }
     if MOST_NAMES - d < held {
-        return Progress::Refused(Refusal::TooManyNames, at);
+        return Err(Fault {
+            cause: Refusal::TooManyNames,
+            offset: at,
+        });
     }
-    Progress::At(next)
+    Ok(next)
 }

@@ -7,30 +7,39 @@ ghost use Rattle.check_bounds.specs.Judging.{ranged_of, headed};
 
 use super::MOST_NAMES;
 use check_marks::Mark;
-use check_records::{Progress, Reading};
-use language::Refusal;
+use check_records::Reading;
+use language::{Fault, Refusal};
 
 // The second field: 4 for a label's index, 7 for a procedure's p.
-fn ranged(mark: Mark, at: usize, next: usize, f1: usize, s: usize) -> Progress
+fn ranged(mark: Mark, at: usize, next: usize, f1: usize, s: usize) -> Result<usize, Fault>
     ensures { result ≡ ranged_of (decl_mark_of mark) at next f1 s }
 {
     match mark {
         Mark::LB => {
             if f1 == 0 {
-                return Progress::Refused(Refusal::FieldRange, at);
+                return Err(Fault {
+                    cause: Refusal::FieldRange,
+                    offset: at,
+                });
             }
             if s < f1 {
-                return Progress::Refused(Refusal::FieldRange, at);
+                return Err(Fault {
+                    cause: Refusal::FieldRange,
+                    offset: at,
+                });
             }
-            Progress::At(next)
+            Ok(next)
         }
         Mark::PR => {
             if MOST_NAMES < f1 {
-                return Progress::Refused(Refusal::TooManyNames, at);
+                return Err(Fault {
+                    cause: Refusal::TooManyNames,
+                    offset: at,
+                });
             }
-            Progress::At(next)
+            Ok(next)
         }
-        _ => Progress::At(next),
+        _ => Ok(next),
     }
 }
 
@@ -42,7 +51,7 @@ pub fn fit(
     s: usize,
     base: usize,
     count: usize,
-) -> Progress
+) -> Result<usize, Fault>
     requires { base + count ≤ length names.now }
     ensures { result ≡ progress_of (headed reading at s (names_at names.now base count)) }
 {
@@ -56,12 +65,12 @@ pub fn fit(
     else {
         return check_records::onward(reading);
     };
-    let ranged = ranged(mark, at, next, f1 as usize, s);
-    let Progress::At(_) = ranged else {
-        return ranged;
-    };
+    let ranged = ranged(mark, at, next, f1 as usize, s)?;
     if check_names::seen(names, base, count, f0) {
-        return Progress::Refused(Refusal::NameTwice, at);
+        return Err(Fault {
+            cause: Refusal::NameTwice,
+            offset: at,
+        });
     }
-    ranged
+    Ok(ranged)
 }

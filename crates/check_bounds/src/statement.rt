@@ -6,29 +6,34 @@ ghost use Rattle.check_bounds.specs.Judging.{action_of};
 
 use super::MOST_NAMES;
 use check_marks::Mark;
-use check_records::Progress;
-use language::Refusal;
+use language::{Fault, Refusal};
 
 // Operations are numbered from 0.
 const LAST_OPERATION: usize = 2;
 
-pub fn action(script: &[u8], mark: Mark, at: usize, next: usize, f1: usize) -> Progress
+pub fn action(script: &[u8], mark: Mark, at: usize, next: usize, f1: usize) -> Result<usize, Fault>
     requires { next ≤ length script.now }
     ensures { result ≡ action_of (stmt_mark_of mark) at f1 next (unread script.now next) }
 {
     match mark {
         Mark::CL => {
             if MOST_NAMES < f1 {
-                return Progress::Refused(Refusal::FieldRange, at);
+                return Err(Fault {
+                    cause: Refusal::FieldRange,
+                    offset: at,
+                });
             }
             check_readers::pass_fields(script, at, next, f1)
         }
         Mark::AR => {
             if LAST_OPERATION < f1 {
-                return Progress::Refused(Refusal::FieldRange, at);
+                return Err(Fault {
+                    cause: Refusal::FieldRange,
+                    offset: at,
+                });
             }
-            Progress::At(next)
+            Ok(next)
         }
-        _ => Progress::At(next),
+        _ => Ok(next),
     }
 }

@@ -1,5 +1,7 @@
 -- A call's arguments, one by one: visible, and of the kinds of the formals.
 -- Assumes nothing.
+use Rattle.language.specs.Faults.{fault}
+use Rattle.std.specs.Prelude.{Some, None, Ok, Err}
 use mathlib.Core.Path.{◌≡◌, sym, ◌∙◌, ap}
 use mathlib.Core.Bool.{Bool, true, false}
 use mathlib.Core.List.{List, [], ◌∷◌, map}
@@ -11,11 +13,9 @@ use Rattle.language.specs.Encoding.{kind_field}
 use Rattle.language.specs.Scope.{Scope, wrong, visible, all_visible, kind_in, agree, ◌then◌}
 use Rattle.language.specs.declared.Refusal.TheVariants.{NotVisible}
 use Rattle.laws.specs.Fields.{field_at, fields_at}
-use Rattle.language.specs.declared.Verdict.TheVariants.{Fit, Refused}
 use Rattle.check_uses.specs.Meanings.{kind_from, kinds_at, meaning_at, scope_of, verdict_of}
 use Rattle.check_symbols.specs.Entries.{found_in}
-use Rattle.check_symbols.specs.declared.Binding.{Binding}
-use Rattle.check_symbols.specs.declared.Binding.TheVariants.{At, Nothing}
+use Rattle.check_symbols.specs.Entries.{Binding}
 use Rattle.check_uses.proofs.Meanings.{found-lookup, kinds-agree, kinds-differ}
 
 one_less_lem : (count i : ℕ) → i < count → count - i ≡ suc (count - (i + 1))
@@ -58,32 +58,32 @@ module _ (bs es : List ℕ) where
   abbrev sc : Scope
   sc = scope_of bs es
 
-  visible-hit : (o n place : ℕ) (ns : List ℕ) → found_in n es ≡ At place → all_visible sc o (n ∷ ns) ≡ all_visible sc o ns
+  visible-hit : (o n place : ℕ) (ns : List ℕ) → found_in n es ≡ Some place → all_visible sc o (n ∷ ns) ≡ all_visible sc o ns
   unfolding all_visible visible ◌then◌
   visible-hit o n place ns e = rw (found-lookup bs n es, e)
 
-  visible-miss : (o n : ℕ) (ns : List ℕ) → found_in n es ≡ Nothing → all_visible sc o (n ∷ ns) ≡ wrong NotVisible o
+  visible-miss : (o n : ℕ) (ns : List ℕ) → found_in n es ≡ None → all_visible sc o (n ∷ ns) ≡ wrong NotVisible o
   unfolding all_visible visible ◌then◌
   visible-miss o n ns e = rw (found-lookup bs n es, e)
 
-  kind-hit : (n place : ℕ) → found_in n es ≡ At place → kind_in sc n ≡ some (meaning_at bs place).kind
+  kind-hit : (n place : ℕ) → found_in n es ≡ Some place → kind_in sc n ≡ some (meaning_at bs place).kind
   unfolding kind_in
   kind-hit n place e = rw (found-lookup bs n es, e, kind_in)
 
-  kind-miss : (n : ℕ) → found_in n es ≡ Nothing → kind_in sc n ≡ none
+  kind-miss : (n : ℕ) → found_in n es ≡ None → kind_in sc n ≡ none
   unfolding kind_in
   kind-miss n e = rw (found-lookup bs n es, e, kind_in)
 
   module _ (k : Kind) (ks : List Kind) (n : ℕ) (xs : List (Option Kind)) where
-    agree-hit : (place : ℕ) → found_in n es ≡ At place → kind_field (meaning_at bs place).kind ≡ kind_field k → agree (k ∷ ks) (kind_in sc n ∷ xs) ≡ agree ks xs
+    agree-hit : (place : ℕ) → found_in n es ≡ Some place → kind_field (meaning_at bs place).kind ≡ kind_field k → agree (k ∷ ks) (kind_in sc n ∷ xs) ≡ agree ks xs
     unfolding agree
     agree-hit place e f = rw (kind-hit n place e, kinds-agree k (meaning_at bs place).kind f)
 
-    agree-off : (place : ℕ) → found_in n es ≡ At place → (kind_field (meaning_at bs place).kind ≡ kind_field k → ⊥) → agree (k ∷ ks) (kind_in sc n ∷ xs) ≡ false
+    agree-off : (place : ℕ) → found_in n es ≡ Some place → (kind_field (meaning_at bs place).kind ≡ kind_field k → ⊥) → agree (k ∷ ks) (kind_in sc n ∷ xs) ≡ false
     unfolding agree
     agree-off place e f = rw (kind-hit n place e, kinds-differ k (meaning_at bs place).kind f)
 
-    agree-miss : found_in n es ≡ Nothing → agree (k ∷ ks) (kind_in sc n ∷ xs) ≡ false
+    agree-miss : found_in n es ≡ None → agree (k ∷ ks) (kind_in sc n ∷ xs) ≡ false
     unfolding agree
     agree-miss e = rw (kind-miss n e)
 
@@ -110,14 +110,14 @@ module _ (bs es : List ℕ) (at count i n : ℕ) (b : Binding) (more : i < count
   arguments : fields_at bs (at + 6 + 2 * i) (count - i) ≡ n ∷ fields_at bs (at + 6 + 2 * (i + 1)) (count - (i + 1))
   arguments = words_step bs (at + 6) count i more ∙ rw is
 
-  pub seeing-step : (place : ℕ) → b ≡ At place → Seeing bs es at count i → Seeing bs es at count (i + 1)
+  pub seeing-step : (place : ℕ) → b ≡ Some place → Seeing bs es at count i → Seeing bs es at count (i + 1)
   seeing-step place e r =
       record {
         within = omega arith;
         same = sym (visible-hit bs es at n place _ (sym found ∙ e)) ∙ ap (all_visible (scope_of bs es) at) (sym arguments) ∙ r.same;
       }
 
-  pub seeing-stop : b ≡ Nothing → Seeing bs es at count i → Refused NotVisible at ≡ verdict_of (all_visible (scope_of bs es) at (fields_at bs (at + 6) count))
+  pub seeing-stop : b ≡ None → Seeing bs es at count i → Err (fault NotVisible at) ≡ verdict_of (all_visible (scope_of bs es) at (fields_at bs (at + 6) count))
   seeing-stop e r =
       sym (ap verdict_of (sym r.same ∙ ap (all_visible (scope_of bs es) at) arguments ∙ visible-miss bs es at n _ (sym found ∙ e)))
 
@@ -134,12 +134,12 @@ module _ (bs es : List ℕ) (at count i n : ℕ) (b : Binding) (more : i < count
         ≡ whole
     split = sym (rw (kinds-step bs formals count i more, arguments)) ∙ r.same
 
-    pub matching-miss : b ≡ Nothing → false ≡ whole
+    pub matching-miss : b ≡ None → false ≡ whole
     matching-miss e = sym (agree-miss bs es wanted _ n _ (sym found ∙ e)) ∙ split
 
     -- the argument's kind and the formal's, as they were read
     module _
-        (place x y k : ℕ) (there : b ≡ At place) (read : x ≡ field_at bs (formals + 4 + 6 * i)) (asked : y ≡ kind_field (kind_from x))
+        (place x y k : ℕ) (there : b ≡ Some place) (read : x ≡ field_at bs (formals + 4 + 6 * i)) (asked : y ≡ kind_field (kind_from x))
         (has : k ≡ kind_field (meaning_at bs place).kind)
       where
         kind-asked : y ≡ kind_field wanted
@@ -156,7 +156,7 @@ module _ (bs es : List ℕ) (at count i n : ℕ) (b : Binding) (more : i < count
         matching-off e = sym (agree-off bs es wanted _ n _ place (sym found ∙ there) (λ p. e (has ∙ p ∙ sym kind-asked))) ∙ split
 
 -- nothing left
-pub seeing-end : {bs es : List ℕ} {at count i : ℕ} → count ≤ i → Seeing bs es at count i → Fit ≡ verdict_of (all_visible (scope_of bs es) at (fields_at bs (at + 6) count))
+pub seeing-end : {bs es : List ℕ} {at count i : ℕ} → count ≤ i → Seeing bs es at count i → Ok tt ≡ verdict_of (all_visible (scope_of bs es) at (fields_at bs (at + 6) count))
 unfolding all_visible
 seeing-end {bs} {es} {at} {count} {i} h r =
     ap verdict_of (sym (ap (all_visible (scope_of bs es) at) (words-done bs (at + 6 + 2 * i) count i h)) ∙ r.same)

@@ -1,5 +1,6 @@
 -- A call and the verdicts on it, and 11.
 -- Assumes nothing.
+use Rattle.std.specs.Prelude.{Some, None, Ok, Err}
 use mathlib.Core.Path.{◌≡◌, refl, sym, ◌∙◌, ap}
 use mathlib.Core.Bool.{Bool, true, false, ◌&&◌}
 use mathlib.Core.List.{List, [], ◌∷◌, map}
@@ -19,10 +20,8 @@ use Rattle.language.specs.declared.Refusal.TheVariants.{CallMismatch}
 use Rattle.laws.specs.Fields.{field_at, fields_at}
 use Rattle.check_uses.specs.Meanings.{kinds_at, meaning_at, scope_of, verdict_of}
 use Rattle.check_symbols.specs.Entries.{found_in}
-use Rattle.language.specs.declared.Verdict.{Verdict}
-use Rattle.language.specs.declared.Verdict.TheVariants.{Fit, Refused}
-use Rattle.check_symbols.specs.declared.Binding.{Binding}
-use Rattle.check_symbols.specs.declared.Binding.TheVariants.{At, Nothing}
+use Rattle.language.specs.Faults.{fault, Verdict}
+use Rattle.check_symbols.specs.Entries.{Binding}
 use Rattle.check_uses.proofs.Meanings.{found-lookup, means-PR, use-right}
 use Rattle.check_uses.proofs.Verdicts.{then-stop, then-go}
 
@@ -57,7 +56,7 @@ length-words bs from (suc n) = ap suc (length-words bs (from + 2) n)
 
 -- by the mark, the number of formals and whether the kinds agree, as they were read
 module _ (bs : List ℕ) (at place mark : ℕ) (read : mark ≡ field_at bs place) where
-  pub agrees-free : (xs : List (Option Kind)) → (mark ≡ PR-mark → ⊥) → Fit ≡ verdict_of (agrees at (some (meaning_at bs place)) xs)
+  pub agrees-free : (xs : List (Option Kind)) → (mark ≡ PR-mark → ⊥) → Ok tt ≡ verdict_of (agrees at (some (meaning_at bs place)) xs)
   unfolding agrees
   agrees-free xs e = sym (ap verdict_of free)
     where
@@ -69,7 +68,7 @@ module _ (bs : List ℕ) (at place mark : ℕ) (read : mark ≡ field_at bs plac
     unfolding agrees
     by-kinds xs b e = rw (means-PR bs place (sym read ∙ marked), e, agrees)
 
-    pub agrees-count : (f : ℕ → Option Kind) (from : ℕ) → (m ≡ count → ⊥) → Refused CallMismatch at ≡ verdict_of (agrees at (some (meaning_at bs place)) (map f (fields_at bs from count)))
+    pub agrees-count : (f : ℕ → Option Kind) (from : ℕ) → (m ≡ count → ⊥) → Err (fault CallMismatch at) ≡ verdict_of (agrees at (some (meaning_at bs place)) (map f (fields_at bs from count)))
     agrees-count f from e =
         sym
         (ap verdict_of
@@ -82,10 +81,10 @@ module _ (bs : List ℕ) (at place mark : ℕ) (read : mark ≡ field_at bs plac
       pub agrees-by : (b : Bool) → t ≡ b → agrees at (some (meaning_at bs place)) xs ≡ (elim b [ true ↦ fine | false ↦ wrong CallMismatch at ])
       agrees-by b e = by-kinds xs b (ap (λ (n : ℕ). agree (kinds_at bs (place + 6) n) xs) (sym counted ∙ same) ∙ sym is ∙ e)
 
-      pub agrees-right : t ≡ true → Fit ≡ verdict_of (agrees at (some (meaning_at bs place)) xs)
+      pub agrees-right : t ≡ true → Ok tt ≡ verdict_of (agrees at (some (meaning_at bs place)) xs)
       agrees-right e = sym (ap verdict_of (agrees-by true e))
 
-      pub agrees-wrong : t ≡ false → Refused CallMismatch at ≡ verdict_of (agrees at (some (meaning_at bs place)) xs)
+      pub agrees-wrong : t ≡ false → Err (fault CallMismatch at) ≡ verdict_of (agrees at (some (meaning_at bs place)) xs)
       agrees-wrong e = sym (ap verdict_of (agrees-by false e))
 
 call-judged : (sc : Scope) (at p : ℕ) (xs : List ℕ) → judge_action sc at (CL p xs) ≡ ◌then◌ (uses sc at procedure p) (◌then◌ (all_visible sc at xs) (agrees at (lookup p sc) (map (kind_in sc) xs)))
@@ -106,22 +105,22 @@ module _ (bs es : List ℕ) (at n m : ℕ) (name : n ≡ field_at bs (at + 2)) (
   opened : verdict_of (◌then◌ (uses sc at procedure n) (◌then◌ (all_visible sc at xs) (agrees at (lookup n sc) (map (kind_in sc) xs)))) ≡ whole
   opened = sym (ap verdict_of (call-judged sc at n xs)) ∙ rw (name, number)
 
-  pub call-stops : (r : Verdict) (c : Refusal) (o : ℕ) → r ≡ verdict_of (uses sc at procedure n) → r ≡ Refused c o → r ≡ whole
+  pub call-stops : (r : Verdict) (c : Refusal) (o : ℕ) → r ≡ verdict_of (uses sc at procedure n) → r ≡ Err (fault c o) → r ≡ whole
   call-stops r c o p q = then-stop (uses sc at procedure n) _ r c o p q ∙ opened
 
-  module _ (r : Verdict) (p : r ≡ verdict_of (uses sc at procedure n)) (fits : r ≡ Fit) where
-    pub call-hides : (s : Verdict) (c : Refusal) (o : ℕ) → s ≡ verdict_of (all_visible sc at xs) → s ≡ Refused c o → s ≡ whole
+  module _ (r : Verdict) (p : r ≡ verdict_of (uses sc at procedure n)) (fits : r ≡ Ok tt) where
+    pub call-hides : (s : Verdict) (c : Refusal) (o : ℕ) → s ≡ verdict_of (all_visible sc at xs) → s ≡ Err (fault c o) → s ≡ whole
     call-hides s c o q e = then-go (uses sc at procedure n) _ r s p fits (then-stop (all_visible sc at xs) _ s c o q e) ∙ opened
 
-    module _ (s : Verdict) (q : s ≡ verdict_of (all_visible sc at xs)) (seen : s ≡ Fit) (b : Binding) (found : b ≡ found_in n es) where
+    module _ (s : Verdict) (q : s ≡ verdict_of (all_visible sc at xs)) (seen : s ≡ Ok tt) (b : Binding) (found : b ≡ found_in n es) where
       judged : (t : Verdict) → t ≡ verdict_of (agrees at (lookup n sc) (map (kind_in sc) xs)) → t ≡ whole
       judged t e = then-go (uses sc at procedure n) _ r t p fits (then-go (all_visible sc at xs) _ s t q seen e) ∙ opened
 
-      pub call-unfound : b ≡ Nothing → Fit ≡ whole
+      pub call-unfound : b ≡ None → Ok tt ≡ whole
       unfolding agrees
-      call-unfound e = judged Fit (rw (found-lookup bs n es, sym found ∙ e))
+      call-unfound e = judged Ok tt (rw (found-lookup bs n es, sym found ∙ e))
 
-      pub call-found : (place : ℕ) (t : Verdict) → b ≡ At place → t ≡ verdict_of (agrees at (some (meaning_at bs place)) (map (kind_in sc) xs)) → t ≡ whole
+      pub call-found : (place : ℕ) (t : Verdict) → b ≡ Some place → t ≡ verdict_of (agrees at (some (meaning_at bs place)) (map (kind_in sc) xs)) → t ≡ whole
       call-found place t e f = judged t (rw (found-lookup bs n es, sym found ∙ e) f)
 
 -- arguments that agree with formals are visible
@@ -148,11 +147,11 @@ agree-visible sc at (k ∷ ks) (n ∷ ns) e =
 -- a declared procedure, and its formals' kinds as they were compared
 pub agreed :
     (bs es : List ℕ) (at n m place mark formals : ℕ) (b : Binding) (t : Bool) → n ≡ field_at bs (at + 2) → m ≡ field_at bs (at + 4) → b ≡ found_in n es →
-    b ≡ At place → mark ≡ field_at bs place → mark ≡ PR-mark → formals ≡ field_at bs (place + 4) → formals ≡ m →
+    b ≡ Some place → mark ≡ field_at bs place → mark ≡ PR-mark → formals ≡ field_at bs (place + 4) → formals ≡ m →
     t ≡ agree (kinds_at bs (place + 6) m) (map (kind_in (scope_of bs es)) (fields_at bs (at + 6) m)) → t ≡ true →
-    Fit ≡ verdict_of (judge_action (scope_of bs es) at (CL (field_at bs (at + 2)) (fields_at bs (at + 6) (field_at bs (at + 4)))))
+    Ok tt ≡ verdict_of (judge_action (scope_of bs es) at (CL (field_at bs (at + 2)) (fields_at bs (at + 6) (field_at bs (at + 4)))))
 agreed bs es at n m place mark formals b t name number found there read marked counted same is e =
-    call-found bs es at n m name number Fit
+    call-found bs es at n m name number Ok tt
     (sym (ap verdict_of (use-right bs es at procedure n place (sym found ∙ there) (ap (λ (x : Meaning). kind_field x.kind) (means-PR bs place (sym read ∙ marked))))))
-    refl Fit (sym (ap verdict_of (agree-visible (scope_of bs es) at (kinds_at bs (place + 6) m) (fields_at bs (at + 6) m) (sym is ∙ e)))) refl b found place Fit there
+    refl Ok tt (sym (ap verdict_of (agree-visible (scope_of bs es) at (kinds_at bs (place + 6) m) (fields_at bs (at + 6) m) (sym is ∙ e)))) refl b found place Ok tt there
     (agrees-right bs at place mark read marked formals m counted _ t same is e)

@@ -10,24 +10,33 @@ ghost use Rattle.check_symbols.specs.Chains.{Chained};
 
 use check_fields::word;
 use check_marks::PR;
-use check_symbols::{Binding, find};
+use check_symbols::find;
 use check_uses::{kind_at, kind_number, uses};
-use language::{Refusal, Verdict};
+use language::{Fault, Refusal};
 
 // The arguments of the call at an offset are visible, whatever their kind.
-fn visible(script: &[u8], entries: &[usize], top: usize, at: usize, count: usize) -> Verdict
+fn visible(
+    script: &[u8],
+    entries: &[usize],
+    top: usize,
+    at: usize,
+    count: usize,
+) -> Result<(), Fault>
     requires { (at < 2 ^ 32) × (count < 65536) × Chained entries.now top }
     ensures { result ≡ verdict_of (definitions.all_visible
         (scope_from script.now entries.now top) at (names_at script.now at count)) }
 {
     let mut i = 0;
     while i < count {
-        let Binding::At(_) = find(entries, top, word(script, at + 6 + 2 * i)) else {
-            return Verdict::Refused(Refusal::NotVisible, at);
+        let Some(_) = find(entries, top, word(script, at + 6 + 2 * i)) else {
+            return Err(Fault {
+                cause: Refusal::NotVisible,
+                offset: at,
+            });
         };
         i += 1;
     }
-    Verdict::Fit
+    Ok(())
 }
 
 // The arguments of the call at an offset are of the kinds of so many formals, one by one.
@@ -45,7 +54,7 @@ fn matching(
 {
     let mut i = 0;
     while i < count {
-        let Binding::At(place) = find(entries, top, word(script, at + 6 + 2 * i)) else {
+        let Some(place) = find(entries, top, word(script, at + 6 + 2 * i)) else {
             return false;
         };
         let wanted = kind_number(word(script, formals + 4 + 6 * i));
@@ -65,40 +74,40 @@ fn agrees(
     at: usize,
     place: usize,
     count: usize,
-) -> Verdict
+) -> Result<(), Fault>
     requires { (at < 2 ^ 32) × (place < 2 ^ 48) × (count < 65536) × Chained entries.now top }
     ensures { result ≡ verdict_of (definitions.agrees at (some (meaning_at script.now place))
         (arguments_at script.now entries.now top at count)) }
 {
     if word(script, place) != PR {
-        return Verdict::Fit;
+        return Ok(());
     }
     if word(script, place + 4) != count {
-        return Verdict::Refused(Refusal::CallMismatch, at);
+        return Err(Fault {
+            cause: Refusal::CallMismatch,
+            offset: at,
+        });
     }
     if matching(script, entries, top, at, place + 6, count) {
-        return Verdict::Fit;
+        return Ok(());
     }
-    Verdict::Refused(Refusal::CallMismatch, at)
+    Err(Fault {
+        cause: Refusal::CallMismatch,
+        offset: at,
+    })
 }
 
 // CL: the name called, then its arguments, then 11.
-fn judge_call(script: &[u8], entries: &[usize], top: usize, at: usize) -> Verdict
+fn judge_call(script: &[u8], entries: &[usize], top: usize, at: usize) -> Result<(), Fault>
     requires { (at < 2 ^ 32) × Chained entries.now top }
     ensures { result ≡ verdict_of (definitions.judge_action (scope_from script.now entries.now top) at (call_at script.now at)) }
 {
     let name = word(script, at + 2);
     let count = word(script, at + 4);
-    let called = uses(script, entries, top, at, 2, name);
-    let Verdict::Fit = called else {
-        return called;
-    };
-    let all = visible(script, entries, top, at, count);
-    let Verdict::Fit = all else {
-        return all;
-    };
-    let Binding::At(place) = find(entries, top, name) else {
-        return Verdict::Fit;
+    uses(script, entries, top, at, 2, name)?;
+    visible(script, entries, top, at, count)?;
+    let Some(place) = find(entries, top, name) else {
+        return Ok(());
     };
     agrees(script, entries, top, at, place, count)
 }
@@ -106,11 +115,11 @@ fn judge_call(script: &[u8], entries: &[usize], top: usize, at: usize) -> Verdic
 // Whether a declared procedure is called with arguments of its formals' kinds: then they are visible too, and nothing is refused.
 fn kinds_agree(script: &[u8], entries: &[usize], top: usize, at: usize) -> bool
     requires { (at < 2 ^ 32) × Chained entries.now top }
-    ensures { result ≡ true → Verdict.Fit ≡ verdict_of (definitions.judge_action (scope_from script.now entries.now top) at (call_at script.now at)) }
+    ensures { result ≡ true → Ok tt ≡ verdict_of (definitions.judge_action (scope_from script.now entries.now top) at (call_at script.now at)) }
 {
     let name = word(script, at + 2);
     let count = word(script, at + 4);
-    let Binding::At(place) = find(entries, top, name) else {
+    let Some(place) = find(entries, top, name) else {
         return false;
     };
     if word(script, place) != PR {
@@ -123,12 +132,12 @@ fn kinds_agree(script: &[u8], entries: &[usize], top: usize, at: usize) -> bool
 }
 
 // CL. A call whose kinds agree looks each argument up once.
-pub fn call(script: &[u8], entries: &[usize], top: usize, at: usize) -> Verdict
+pub fn call(script: &[u8], entries: &[usize], top: usize, at: usize) -> Result<(), Fault>
     requires { (at < 2 ^ 32) × Chained entries.now top }
     ensures { result ≡ verdict_of (definitions.judge_action (scope_from script.now entries.now top) at (call_at script.now at)) }
 {
     if kinds_agree(script, entries, top, at) {
-        return Verdict::Fit;
+        return Ok(());
     }
     judge_call(script, entries, top, at)
 }

@@ -1,13 +1,11 @@
 -- The number of fields after a mark, by the definitions' rows of each place.
-use Rattle.std.specs.Prelude.{ℕ}
+use Rattle.std.specs.Prelude.{Some, None, ℕ}
 use Rattle.check_marks.specs.declared.Place.TheVariants.{Formal, Declaration, Statement}
-use Rattle.check_marks.specs.declared.Fit.{Fit}
-use Rattle.check_marks.specs.declared.Fit.TheVariants.{Matched, Nothing}
-use Rattle.check_marks.specs.Marks.{fit_at}
+use Rattle.check_marks.specs.Marks.{Fit, fit_at}
 
 abbrev pub count_or : Fit → ℕ → ℕ
-count_or (Matched n m) d = n
-count_or Nothing d = d
+count_or (Some m) d = m.count
+count_or None d = d
 
 -- of a block's mark too, which is a statement's; 2, as most have, for letters that are no mark
 unfoldable pub field_count : ℕ → ℕ

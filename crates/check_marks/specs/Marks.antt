@@ -1,12 +1,11 @@
 -- The marks that may stand at a place, as the code's enums have them: the definitions' rows.
-use Rattle.std.specs.Prelude.{ℕ, Bool, true, false, List, [], ◌∷◌, eqb}
+use Rattle.std.specs.Prelude.{Option, Some, None, ℕ, Bool, true, false, List, [], ◌∷◌, eqb}
 use Rattle.language.specs.Structure.{Row, DeclMark, is_vR, is_lB, is_pR, StmtMark, is_bK, is_cL, is_gO, is_iF, is_kN, is_aR, is_aD, is_rM, is_qY, block_marks, formal_marks, decl_marks, stmt_marks}
 use Rattle.check_marks.specs.declared.Mark.{Mark}
 use Rattle.check_marks.specs.declared.Mark.TheVariants.{BK, VR, LB, PR, FM, CL, GO, IF, KN, AR, AD, RM, QY}
 use Rattle.check_marks.specs.declared.Place.{Place}
 use Rattle.check_marks.specs.declared.Place.TheVariants.{Block, Formal, Declaration, Statement}
-use Rattle.check_marks.specs.declared.Fit.{Fit}
-use Rattle.check_marks.specs.declared.Fit.TheVariants.{Matched, Nothing}
+use Rattle.check_marks.specs.declared.Matched.{Matched}
 
 -- the code's name of each mark of the definitions
 unfoldable pub decl_mark : DeclMark → Mark
@@ -35,10 +34,14 @@ bit_of Formal = 2
 bit_of Declaration = 4
 bit_of Statement = 8
 
+-- a mark that may stand at a place, with how many fields come after it, or none
+abbrev pub Fit : Type 0
+Fit = Option Matched
+
 -- the first row with these letters
 unfoldable pub fit_in : {M : Type 0} → (M → Mark) → ℕ → List (Row M) → Fit
-fit_in f w [] = Nothing
-fit_in f w (r ∷ rs) = elim (eqb w r.letters) [ true ↦ Matched r.count (f r.mark) | false ↦ fit_in f w rs ]
+fit_in f w [] = None
+fit_in f w (r ∷ rs) = elim (eqb w r.letters) [ true ↦ Some (record { count = r.count; mark = f r.mark }) | false ↦ fit_in f w rs ]
 
 unfoldable pub fit_at : Place → ℕ → Fit
 fit_at Block w = fit_in (only_mark BK) w block_marks

@@ -181,10 +181,11 @@ const MARKS: [Entry; 13] = [
     },
 ];
 
+// A mark that may stand at a place, and how many fields come after it.
 #[derive(Clone, Copy)]
-pub enum Fit {
-    Matched { count: u8, mark: Mark },
-    Nothing,
+pub struct Matched {
+    pub count: u8,
+    pub mark: Mark,
 }
 
 fn bit_of(place: Place) -> u8
@@ -200,7 +201,7 @@ fn bit_of(place: Place) -> u8
 
 // The mark with these letters, of those that may stand at a place. The table is copied once, before the loop: where the place is known
 // when the call is compiled, a comparison for each of its marks is left.
-pub fn find_mark(letters: u32, place: Place) -> Fit
+pub fn find_mark(letters: u32, place: Place) -> Option<Matched>
     ensures { result ≡ fit_at place letters }
 {
     let marks = MARKS;
@@ -211,15 +212,15 @@ pub fn find_mark(letters: u32, place: Place) -> Fit
         if e.places / bit % 2 == 1 {
             if e.letters == letters {
                 let mark = e.mark;
-                return Fit::Matched {
+                return Some(Matched {
                     count: e.count,
                     mark,
-                };
+                });
             }
         }
         i += 1;
     }
-    Fit::Nothing
+    None
 }
 
 // The number of fields after a mark, wherever it may stand; 2, as most have, for letters that are no mark, so that the compiled code compares
@@ -227,13 +228,13 @@ pub fn find_mark(letters: u32, place: Place) -> Fit
 pub fn field_count(letters: u32) -> usize
     ensures { (result ≡ field_count letters) × (result < 256) }
 {
-    if let Fit::Matched { count, .. } = find_mark(letters, Place::Statement) {
+    if let Some(Matched { count, .. }) = find_mark(letters, Place::Statement) {
         return from_u8(count);
     }
-    if let Fit::Matched { count, .. } = find_mark(letters, Place::Declaration) {
+    if let Some(Matched { count, .. }) = find_mark(letters, Place::Declaration) {
         return from_u8(count);
     }
-    if let Fit::Matched { count, .. } = find_mark(letters, Place::Formal) {
+    if let Some(Matched { count, .. }) = find_mark(letters, Place::Formal) {
         return from_u8(count);
     }
     2

@@ -1,4 +1,5 @@
 -- The formals of a procedure, one after the other. Assumes nothing.
+use Rattle.std.specs.Prelude.{Ok, Err}
 use mathlib.Core.Path.{◌≡◌, refl, sym, ◌∙◌, ap}
 use mathlib.Core.Bool.{Bool, true, false, not}
 use mathlib.Core.List.{List, [], ◌∷◌, ◌++◌, append_assoc, append-nil}
@@ -19,7 +20,7 @@ use Rattle.check_records.specs.declared.Reading.TheVariants.{Taken, Refused}
 use Rattle.check_marks.specs.Marks.{only_mark}
 use Rattle.check_records.specs.Taking.{unread, record_at, forget}
 use Rattle.check_records.proofs.Steps.{Step, stepped, stopped}
-use Rattle.check_records.specs.declared.Progress.{Progress}
+use Rattle.language.specs.Faults.{fault, Progress}
 use Rattle.check_names.specs.Naming.{names_at, NamesOf}
 use Rattle.check_names.proofs.Names.{names-added}
 use Rattle.check_names.proofs.SameNames.{formals-same, same-snoc}
@@ -197,14 +198,14 @@ module _ {bs : List ℕ} {p start base : ℕ} {names : List ℕ} {at i : ℕ} (s
 
 -- what the code ensures of the formals, from how the definitions' outcome is known
 module _ (x : Outcome (List Formal)) (ns : List ℕ) where
-  pub post-refused : {c : Refusal} {o : ℕ} → x ≡ refuse c o → (Progress.Refused c o ≡ forget x) × NamesOf x ns
+  pub post-refused : {c : Refusal} {o : ℕ} → x ≡ refuse c o → (Err (fault c o) ≡ forget x) × NamesOf x ns
   unfolding forget
   post-refused e = rw e (refl, tt)
 
-  post_read : {fs : List Formal} {at : ℕ} {ws : List ℕ} → x ≡ read fs at ws → ns ≡ formal_names fs → (Progress.At at ≡ forget x) × NamesOf x ns
+  post_read : {fs : List Formal} {at : ℕ} {ws : List ℕ} → x ≡ read fs at ws → ns ≡ formal_names fs → (Ok at ≡ forget x) × NamesOf x ns
   unfolding forget
   post_read e q = rw e (refl, q)
 
-pub all-post : {bs : List ℕ} {p start base : ℕ} {names : List ℕ} {at i : ℕ} (so : SoFar bs p start base names at i) → i ≡ p → (Progress.At at ≡ forget (formals p [] start (unread bs start))) × NamesOf (formals p [] start (unread bs start)) (names_at names base p)
+pub all-post : {bs : List ℕ} {p start base : ℕ} {names : List ℕ} {at i : ℕ} (so : SoFar bs p start base names at i) → i ≡ p → (Ok at ≡ forget (formals p [] start (unread bs start))) × NamesOf (formals p [] start (unread bs start)) (names_at names base p)
 all-post {base = base} {names} so e =
     post_read _ _ (all_read so (omega arith)) (ap (names_at names base) (sym e) ∙ so.names-are ∙ ap formal_names (sym (append-nil so.done)))

@@ -8,14 +8,20 @@ ghost use Rattle.check_names.specs.Holding.{held_of, names_with};
 use super::seen;
 use check_fields::Reader;
 use check_readers::formal_here;
-use check_records::{Progress, Reading};
-use language::Refusal;
+use check_records::Reading;
+use language::{Fault, Refusal};
 
 // Kinds are numbered from 0.
 const LAST_KIND: u32 = 2;
 
 // A formal whose record was read at an offset: its name is put after the count names from a base on.
-fn hold(names: &mut [u32], base: usize, count: usize, at: usize, reading: Reading) -> Progress
+fn hold(
+    names: &mut [u32],
+    base: usize,
+    count: usize,
+    at: usize,
+    reading: Reading,
+) -> Result<usize, Fault>
     requires { base + count < length names.old }
     ensures judged { result ≡ held_of reading at (names_at names.old base count) }
     ensures held { names.new ≡ names_with result reading names.old (base + count) }
@@ -24,17 +30,29 @@ fn hold(names: &mut [u32], base: usize, count: usize, at: usize, reading: Readin
         return check_records::onward(reading);
     };
     if LAST_KIND < f1 {
-        return Progress::Refused(Refusal::FieldRange, at);
+        return Err(Fault {
+            cause: Refusal::FieldRange,
+            offset: at,
+        });
     }
     if seen(names, base, count, f0) {
-        return Progress::Refused(Refusal::NameTwice, at);
+        return Err(Fault {
+            cause: Refusal::NameTwice,
+            offset: at,
+        });
     }
     names[base + count] = f0;
-    Progress::At(next)
+    Ok(next)
 }
 
 // p formals, handed out one after the other by one reader, which moves on. Their names are put from a base on. The judging is left to `hold`.
-pub fn read_formals(script: &[u8], names: &mut [u32], at: usize, p: usize, base: usize) -> Progress
+pub fn read_formals(
+    script: &[u8],
+    names: &mut [u32],
+    at: usize,
+    p: usize,
+    base: usize,
+) -> Result<usize, Fault>
     requires { base + p ≤ length names.old }
     ensures reads { result ≡ forget (formals p [] at (unread script.now at)) }
     ensures named { NamesOf (formals p [] at (unread script.now at)) (names_at names.new base p) }
@@ -44,12 +62,8 @@ pub fn read_formals(script: &[u8], names: &mut [u32], at: usize, p: usize, base:
     let mut i = 0;
     while i < p {
         let reading = formal_here(reader);
-        let after = hold(names, base, i, reader.at, reading);
-        let Progress::At(next) = after else {
-            return after;
-        };
-        reader.at = next;
+        reader.at = hold(names, base, i, reader.at, reading)?;
         i += 1;
     }
-    Progress::At(reader.at)
+    Ok(reader.at)
 }

@@ -8,10 +8,8 @@ ghost use Rattle.check_records.specs.Taking.{unread, forget, record_at, Within};
 
 use check_fields::{Reader, reader_at};
 use check_marks::Place;
-use check_records::{
-    Progress, Reading, block_at, declaration_at, fields_from, formal_at, statement_at,
-};
-use language::Refusal;
+use check_records::{Reading, block_at, declaration_at, fields_from, formal_at, statement_at};
+use language::{Fault, Refusal};
 
 // The record at the reader's position, by the place where it stands.
 fn block_here<'a>(r: Reader<'a>) -> Reading
@@ -59,11 +57,14 @@ fn left(script: &[u8], at: usize) -> usize
 }
 
 // The count fields from an offset on, passed over as part of the record at `at`; 2 where they run past the end.
-pub fn pass_fields(script: &[u8], at: usize, from: usize, count: usize) -> Progress
+pub fn pass_fields(script: &[u8], at: usize, from: usize, count: usize) -> Result<usize, Fault>
     ensures { result ≡ forget (definitions.fields at count from (unread script.now from)) }
 {
     if left(script, from) < count {
-        return Progress::Refused(Refusal::PastTheEnd, at);
+        return Err(Fault {
+            cause: Refusal::PastTheEnd,
+            offset: at,
+        });
     }
-    Progress::At(from + 2 * count)
+    Ok(from + 2 * count)
 }

@@ -1,5 +1,5 @@
 -- What reading one record gives, as the code's enums have it: the definitions' readers over the bytes from an offset on.
-use Rattle.std.specs.Prelude.{ℕ, ◌+◌, ◌*◌, ◌≤◌, ◌<◌, List, get_or, take, drop}
+use Rattle.std.specs.Prelude.{ℕ, ◌+◌, ◌*◌, ◌≤◌, ◌<◌, List, get_or, take, drop, Ok, Err}
 use Rattle.language.specs.Encoding.{fields_of}
 use Rattle.language.specs.Structure.{Reading as Outcome, read, refuse, Record, block_marks, formal_marks, decl_marks, stmt_marks, take-record}
 use Rattle.check_marks.specs.Marks.{decl_mark, stmt_mark, only_mark}
@@ -9,7 +9,7 @@ use Rattle.check_marks.specs.declared.Place.{Place}
 use Rattle.check_marks.specs.declared.Place.TheVariants.{Block, Formal, Declaration, Statement}
 use Rattle.check_records.specs.declared.Reading.{Reading}
 use Rattle.check_records.specs.declared.Reading.TheVariants.{Taken, Refused}
-use Rattle.check_records.specs.declared.Progress.{Progress}
+use Rattle.language.specs.Faults.{fault, Progress}
 
 -- the fields from a byte offset on
 unfoldable pub unread : List ℕ → ℕ → List ℕ
@@ -40,9 +40,9 @@ Within n at (Refused c o) = Unit {0}
 
 -- where reading goes on, whatever was read
 abbrev pub progress_of : Reading → Progress
-progress_of (Taken m next f0 f1 f2 f3) = Progress.At next
-progress_of (Refused c o) = Progress.Refused c o
+progress_of (Taken m next f0 f1 f2 f3) = Ok next
+progress_of (Refused c o) = Err (fault c o)
 
 unfoldable pub forget : {A : Type 0} → Outcome A → Progress
-forget (read a at ws) = Progress.At at
-forget (refuse c o) = Progress.Refused c o
+forget (read a at ws) = Ok at
+forget (refuse c o) = Err (fault c o)

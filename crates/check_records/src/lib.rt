@@ -5,7 +5,7 @@ ghost use Rattle.std.specs.Prelude.{◌≡◌};
 ghost use Rattle.check_records.specs.Taking.{progress_of};
 
 use check_marks::Mark;
-use language::Refusal;
+use language::{Fault, Refusal};
 
 mod fields;
 mod record;
@@ -27,19 +27,12 @@ pub enum Reading {
     Refused(Refusal, usize),
 }
 
-// Where the next record begins, or the refusal with its offset.
-#[derive(Clone, Copy)]
-pub enum Progress {
-    At(usize),
-    Refused(Refusal, usize),
-}
-
-// Where a reading goes on.
-pub fn onward(r: Reading) -> Progress
+// Where a reading goes on: where the next record begins, or the refusal.
+pub fn onward(r: Reading) -> Result<usize, Fault>
     ensures { result ≡ progress_of r }
 {
     match r {
-        Reading::Taken { next, .. } => Progress::At(next),
-        Reading::Refused(c, o) => Progress::Refused(c, o),
+        Reading::Taken { next, .. } => Ok(next),
+        Reading::Refused(cause, offset) => Err(Fault { cause, offset }),
     }
 }

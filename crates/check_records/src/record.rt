@@ -4,7 +4,7 @@ ghost use Rattle.check_records.specs.Taking.{record_at, Within};
 
 use super::Reading;
 use super::fields::{field_at, field_of, marked};
-use check_marks::{Fit, Place, find_mark};
+use check_marks::{Matched, Place, find_mark};
 use language::Refusal;
 use numbers::from_u8;
 
@@ -13,7 +13,7 @@ fn take_record(script: &[u8], at: usize, place: Place) -> Reading
     requires { at + 2 ≤ length script.now }
     ensures { (result ≡ record_at place script.now at) × Within (length script.now) at result }
 {
-    let Fit::Matched { count, mark } = find_mark(field_at(script, at), place) else {
+    let Some(Matched { count, mark }) = find_mark(field_at(script, at), place) else {
         return Reading::Refused(Refusal::MarkMisplaced, at);
     };
     let from = at + 2;

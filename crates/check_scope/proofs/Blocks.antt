@@ -1,5 +1,6 @@
 -- A block with its formals: its names in the array, and its records judged among them.
 -- Assumes nothing.
+use Rattle.std.specs.Prelude.{Ok, Err}
 use mathlib.Core.Path.{◌≡◌, refl, sym, ◌∙◌, ap, subst}
 use mathlib.Core.Bool.{Bool, true, false}
 use mathlib.Core.List.{List, [], ◌∷◌, ◌++◌, map}
@@ -13,8 +14,7 @@ use Rattle.language.specs.Text.{Formal, Block, block, Decls, no-decl, decl, Stmt
 use Rattle.language.specs.Encoding.{block_fields, decl_fields, stmt_fields, decls_fields, BK-mark}
 use Rattle.language.specs.Scope.{Scope, fine, wrong, ◌then◌, inside, judge_block, judge_decls, judge_stmts}
 use Rattle.language.specs.Scope as definitions
-use Rattle.check_records.specs.declared.Progress.{Progress}
-use Rattle.check_records.specs.declared.Progress.TheVariants.{At, Refused}
+use Rattle.language.specs.Faults.{Progress}
 use Rattle.grammar.specs.Rules.{FormedBlock, FormedDecls, FormedStmts}
 use Rattle.laws.specs.Fields.{field_at, FieldsStand, field-inside, fields-first, fields-after, fields-third}
 use Rattle.check_uses.specs.Meanings.{scope_of}
@@ -35,8 +35,8 @@ word-within bs at p = go (leb (length bs) at) refl
     go false e = leb-false (length bs) at e
 
 pub ahead-from : (at o n : ℕ) (r : Progress) → at ≤ o → Ahead o n r → Ahead at n r
-ahead-from at o n (At e) h a = (omega arith, a.1)
-ahead-from at o n (Refused c p) h a = tt
+ahead-from at o n (Ok e) h a = (omega arith, a.1)
+ahead-from at o n (Err e) h a = tt
 
 -- declarations and statements as records
 then-assoc : (u v w : definitions.Judgement) → ◌then◌ (◌then◌ u v) w ≡ ◌then◌ u (◌then◌ v w)

@@ -1,5 +1,6 @@
 -- One declaration or statement, by its mark.
 -- Assumes nothing.
+use Rattle.std.specs.Prelude.{Ok, Err}
 use mathlib.Core.Path.{◌≡◌, refl, sym, ◌∙◌, ap, subst}
 use mathlib.Core.List.{List, [], ◌∷◌}
 use Prim.Native.Nat.{ℕ, suc, ◌+◌, ◌*◌, ◌<◌}
@@ -9,17 +10,13 @@ use Rattle.language.specs.Text.{Action, CL, GO, IF, KN, AR, AD, RM, QY}
 use Rattle.language.specs.Encoding.{action_fields, BK-mark, VR-mark, LB-mark, PR-mark, CL-mark, IF-mark, AR-mark, AD-mark, RM-mark, QY-mark, operation_field}
 use Rattle.language.specs.Scope.{Scope, fine, wrong, judge_action, judge_block, judge_decl, judge_stmt}
 use Rattle.language.specs.Scope as definitions
-use Rattle.check_records.specs.declared.Progress.{Progress}
-use Rattle.check_records.specs.declared.Progress.TheVariants.{At}
+use Rattle.language.specs.Faults.{fault, Progress, Verdict}
 use Rattle.laws.specs.Fields.{field_at, FieldsStand, fields-after, fields-are, fields-third}
 use Rattle.check_uses.specs.Meanings.{verdict_of, scope_from}
 use Rattle.check_statements.specs.Shapes.{shape_of, judged_as}
 use Rattle.check_extents.specs.Items.{Item, item_fields}
 use Rattle.check_statements.specs.Walked.{progress_after, Walked}
 use Rattle.check_scope.specs.Walking.{progress_of, Ahead, judge_item, BlockJudged, ItemJudged}
-use Rattle.language.specs.declared.Verdict.{Verdict}
-use Rattle.language.specs.declared.Verdict.TheVariants.{Fit}
-use Rattle.language.specs.declared.Verdict.TheVariants as verdicts
 use Rattle.check_scope.proofs.Marked.{procedure-here, inner-here, variable-here, label-here, statement-here}
 
 -- the fourth and the fifth field
@@ -75,17 +72,17 @@ module _ (bs es : List ℕ) (at top mark : ℕ) (read : mark ≡ field_at bs at)
       let p = inner-here bs at top level s mark read x m h in
       judged-as x _ _ _ r p.is refl p.size (j p.text [] (suc level) p.here)
 
-  pub variable-judged : mark ≡ VR-mark → ItemJudged bs es at top (At (at + 4))
+  pub variable-judged : mark ≡ VR-mark → ItemJudged bs es at top (Ok (at + 4))
   unfolding judge_item judge_decl
   variable-judged m x level s h =
       let p = variable-here bs at top level s mark read x m h in
-      judged-as x _ _ _ (At (at + 4)) p.is refl p.size refl
+      judged-as x _ _ _ (Ok (at + 4)) p.is refl p.size refl
 
-  pub label-judged : mark ≡ LB-mark → ItemJudged bs es at top (At (at + 6))
+  pub label-judged : mark ≡ LB-mark → ItemJudged bs es at top (Ok (at + 6))
   unfolding judge_item judge_decl
   label-judged m x level s h =
       let p = label-here bs at top level s mark read x m h in
-      judged-as x _ _ _ (At (at + 6)) p.is refl p.size refl
+      judged-as x _ _ _ (Ok (at + 6)) p.is refl p.size refl
 
   pub action-judged :
       (r : Progress) → (mark ≡ PR-mark → ⊥) → (mark ≡ BK-mark → ⊥) → (mark ≡ VR-mark → ⊥) → (mark ≡ LB-mark → ⊥) → Walked bs es top at r →
@@ -101,5 +98,5 @@ pub ahead-action : (bs es : List ℕ) (top at : ℕ) (r : Progress) → at < len
 ahead-action bs es top at r l n = subst (Ahead at (length bs)) (sym n.so) (go n.verdict)
   where
     go : (w : Verdict) → Ahead at (length bs) (progress_after w n.next)
-    go Fit = (omega (arith, n.past.on), omega (arith, n.past.near))
-    go (verdicts.Refused c o) = tt
+    go Ok tt = (omega (arith, n.past.on), omega (arith, n.past.near))
+    go (Err (fault c o)) = tt

@@ -1,5 +1,6 @@
 -- The walk over records, one after the other.
 -- Assumes nothing.
+use Rattle.std.specs.Prelude.{Ok, Err}
 use mathlib.Core.Path.{◌≡◌, refl, sym, ◌∙◌, ap, subst}
 use mathlib.Core.List.{List, [], ◌∷◌, ◌++◌}
 use Prim.Native.Nat.{ℕ, ◌+◌, ◌*◌, ◌<◌, ◌≤◌}
@@ -8,20 +9,19 @@ use lib.ListN.{length, drop, length-append}
 use Rattle.language.specs.Scope.{fine, wrong, ◌then◌}
 use Rattle.language.specs.Scope as definitions
 use Rattle.language.specs.declared.Refusal.{Refusal}
-use Rattle.check_records.specs.declared.Progress.{Progress}
-use Rattle.check_records.specs.declared.Progress.TheVariants.{At, Refused}
+use Rattle.language.specs.Faults.{fault, Progress}
 use Rattle.check_uses.specs.Meanings.{scope_of}
 use Rattle.check_extents.specs.Items.{Item, item_fields, items_fields}
 use Rattle.check_scope.specs.Walking.{progress_of, judge_item, judge_items, ItemsHere, ItemHere, Ahead, Ready, Kept, ItemJudged, ItemsJudged}
 use Rattle.check_scope.proofs.Marked.{first-here, first-inside, others-here}
 
 -- a verdict, then another: where the first refuses, and where it does not
-stops : (r : Progress) (v w : definitions.Judgement) (c : Refusal) (o e e' : ℕ) → r ≡ progress_of v e → r ≡ Refused c o → r ≡ progress_of (◌then◌ v w) e'
+stops : (r : Progress) (v w : definitions.Judgement) (c : Refusal) (o e e' : ℕ) → r ≡ progress_of v e → r ≡ Err (fault c o) → r ≡ progress_of (◌then◌ v w) e'
 unfolding ◌then◌
 stops r fine w c o e e' p q = absurd (let z : ◌≡◌ {A = ℕ} 0 1 = cc in omega arith)
 stops r (wrong d n) w c o e e' p q = p
 
-goes : (r : Progress) (v w : definitions.Judgement) (next e e' : ℕ) → r ≡ progress_of v e → r ≡ At next → (next ≡ e) × (progress_of w e' ≡ progress_of (◌then◌ v w) e')
+goes : (r : Progress) (v w : definitions.Judgement) (next e e' : ℕ) → r ≡ progress_of v e → r ≡ Ok next → (next ≡ e) × (progress_of w e' ≡ progress_of (◌then◌ v w) e')
 unfolding ◌then◌
 goes r fine w next e e' p q = (cc, refl)
 goes r (wrong d n) w next e e' p q = absurd (let z : ◌≡◌ {A = ℕ} 0 1 = cc in omega arith)
@@ -46,15 +46,15 @@ module _ (bs es : List ℕ) (at count top : ℕ) (xs : List Item) (level s : ℕ
   answer = progress_of (judge_items xs (scope_of bs (drop top es))) (at + 2 * length (items_fields xs))
 
   module _ (here i : ℕ) where
-    remaining-end : count ≤ i → Remaining bs es at here i count top xs level s → At here ≡ answer
+    remaining-end : count ≤ i → Remaining bs es at here i count top xs level s → Ok here ≡ answer
     unfolding judge_items items_fields
     remaining-end h r = none r.left r.number r.verdict
       where
         nothing : here + 2 * 0 ≡ here
         nothing = omega arith
 
-        none : (l : List Item) → length l + i ≡ count → progress_of (judge_items l (scope_of bs (drop top es))) (here + 2 * length (items_fields l)) ≡ answer → At here ≡ answer
-        none [] n v = ap At (sym nothing) ∙ v
+        none : (l : List Item) → length l + i ≡ count → progress_of (judge_items l (scope_of bs (drop top es))) (here + 2 * length (items_fields l)) ≡ answer → Ok here ≡ answer
+        none [] n v = ap Ok (sym nothing) ∙ v
         none (y ∷ ys) n v = absurd (omega arith)
 
     -- the next record: it begins inside the script, and is judged
@@ -67,16 +67,16 @@ module _ (bs es : List ℕ) (at count top : ℕ) (xs : List Item) (level s : ℕ
           go (y ∷ ys) n h out = first-inside bs here top level s y ys h out
 
       module _ (r : Progress) (judged : (x : Item) (k n : ℕ) → ItemHere bs here top x k n → r ≡ progress_of (judge_item x (scope_of bs (drop top es))) (here + 2 * length (item_fields x))) where
-        stop-at : (c : Refusal) (o : ℕ) → r ≡ Refused c o → (l : List Item) → length l + i ≡ count → ItemsHere bs here (length l) top l level s → progress_of (judge_items l (scope_of bs (drop top es))) (here + 2 * length (items_fields l)) ≡ answer → r ≡ answer
+        stop-at : (c : Refusal) (o : ℕ) → r ≡ Err (fault c o) → (l : List Item) → length l + i ≡ count → ItemsHere bs here (length l) top l level s → progress_of (judge_items l (scope_of bs (drop top es))) (here + 2 * length (items_fields l)) ≡ answer → r ≡ answer
         unfolding judge_items
         stop-at c o q [] n h v = absurd (omega arith)
         stop-at c o q (y ∷ ys) n h v =
             stops r (judge_item y (scope_of bs (drop top es))) (judge_items ys (scope_of bs (drop top es))) c o _ _ (judged y level s (first-here bs here top level s y ys h)) q ∙ v
 
-        remaining-stop : (c : Refusal) (o : ℕ) → r ≡ Refused c o → Remaining bs es at here i count top xs level s → r ≡ answer
+        remaining-stop : (c : Refusal) (o : ℕ) → r ≡ Err (fault c o) → Remaining bs es at here i count top xs level s → r ≡ answer
         remaining-stop c o q m = stop-at c o q m.left m.number m.rest m.verdict
 
-        go_on : (next : ℕ) → r ≡ At next → (l : List Item) → length l + i ≡ count → ItemsHere bs here (length l) top l level s → progress_of (judge_items l (scope_of bs (drop top es))) (here + 2 * length (items_fields l)) ≡ answer → Remaining bs es at next (i + 1) count top xs level s
+        go_on : (next : ℕ) → r ≡ Ok next → (l : List Item) → length l + i ≡ count → ItemsHere bs here (length l) top l level s → progress_of (judge_items l (scope_of bs (drop top es))) (here + 2 * length (items_fields l)) ≡ answer → Remaining bs es at next (i + 1) count top xs level s
         unfolding judge_items items_fields
         go_on next q [] n h v = absurd (omega arith)
         go_on next q (y ∷ ys) n h v =
@@ -91,7 +91,7 @@ module _ (bs es : List ℕ) (at count top : ℕ) (xs : List Item) (level s : ℕ
               verdict = ap (λ (o : ℕ). progress_of (judge_items ys sc) (o + 2 * length (items_fields ys))) g.0 ∙ ap (progress_of (judge_items ys sc)) e ∙ g.1 ∙ v;
             }
 
-        remaining-step : (next : ℕ) → r ≡ At next → Remaining bs es at here i count top xs level s → Remaining bs es at next (i + 1) count top xs level s
+        remaining-step : (next : ℕ) → r ≡ Ok next → Remaining bs es at here i count top xs level s → Remaining bs es at next (i + 1) count top xs level s
         remaining-step next q m = go_on next q m.left m.number m.rest m.verdict
 
 -- the records walked so far, as the code has it
@@ -115,7 +115,7 @@ walking_start bs es ends at count top r l =
     }
 
 module _ {bs es₀ es ends : List ℕ} {at here i count top : ℕ} (w : Walking bs es₀ es ends at here i count top) where
-  pub walking-end : count ≤ i → ItemsJudged bs es₀ at count top (At here)
+  pub walking-end : count ≤ i → ItemsJudged bs es₀ at count top (Ok here)
   walking-end l xs level s h = remaining-end bs es₀ at count top xs level s here i l (w.rest xs level s h)
 
   pub walking-out : (r : Progress) → i < count → length bs ≤ here → ItemsJudged bs es₀ at count top r
@@ -125,11 +125,11 @@ module _ {bs es₀ es ends : List ℕ} {at here i count top : ℕ} (w : Walking 
     judged-at : (x : Item) (k n : ℕ) → ItemHere bs here top x k n → r ≡ progress_of (judge_item x (scope_of bs (drop top es₀))) (here + 2 * length (item_fields x))
     judged-at x k n g = judged x k n g ∙ ap (λ (l : List ℕ). progress_of (judge_item x (scope_of bs l)) (here + 2 * length (item_fields x))) w.kept.same
 
-    pub walking-stop : (c : Refusal) (o : ℕ) → r ≡ Refused c o → ItemsJudged bs es₀ at count top r
+    pub walking-stop : (c : Refusal) (o : ℕ) → r ≡ Err (fault c o) → ItemsJudged bs es₀ at count top r
     walking-stop c o q xs level s h = remaining-stop bs es₀ at count top xs level s here i more r judged-at c o q (w.rest xs level s h)
 
     pub walking-step :
-        {es₁ ends₁ : List ℕ} (next : ℕ) → r ≡ At next → Ahead here (length bs) r → length es₁ ≡ length es → Kept bs es es₁ ends₁ top → Walking bs es₀ es₁ ends₁ at next (i + 1) count top
+        {es₁ ends₁ : List ℕ} (next : ℕ) → r ≡ Ok next → Ahead here (length bs) r → length es₁ ≡ length es → Kept bs es es₁ ends₁ top → Walking bs es₀ es₁ ends₁ at next (i + 1) count top
     walking-step next q a n k =
         let on : (here ≤ next) × (next ≤ length bs + 131076) = subst (Ahead here (length bs)) q a in
         record {

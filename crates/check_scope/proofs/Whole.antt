@@ -10,7 +10,7 @@ use Rattle.language.specs.Encoding.{block_fields, formals_fields, fields_of}
 use Rattle.language.specs.Structure.{Reading, read, refuse, program}
 use Rattle.language.specs.Scope.{fine, wrong, judge_block}
 use Rattle.language.specs.Scope as definitions
-use Rattle.check_records.specs.declared.Progress.{Progress}
+use Rattle.language.specs.Faults.{Progress}
 use Rattle.grammar.specs.Rules.{Bytes, FormedFormals}
 use Rattle.grammar.specs.Readers.{Yields}
 use Rattle.grammar.specs.Words.{fields-are-names}
@@ -18,7 +18,7 @@ use Rattle.grammar.proofs.Reading.{GotBlock, read-program}
 use Rattle.laws.specs.Fields.{FieldsStand, fields-first, fields-stand}
 use Rattle.check_uses.specs.Meanings.{scope_of, verdict_of}
 use Rattle.check_scope.specs.Walking.{progress_of, settled_of, Judged, BlockHere}
-use Rattle.language.specs.declared.Verdict.{Verdict}
+use Rattle.language.specs.Faults.{Verdict}
 
 settled-verdict : (v : definitions.Judgement) (end : ℕ) → settled_of (progress_of v end) ≡ verdict_of v
 settled-verdict fine end = refl

@@ -1,31 +1,27 @@
 -- The walk over a block's records: what it is given, and what it answers.
-use Rattle.std.specs.Prelude.{ℕ, ◌+◌, ◌*◌, ◌≤◌, List, [], ◌∷◌, ◌≡◌, length, drop}
+use Rattle.std.specs.Prelude.{ℕ, ◌+◌, ◌*◌, ◌≤◌, List, [], ◌∷◌, ◌≡◌, length, drop, Ok, Err}
 use Rattle.language.specs.Text.{Formal, Block}
 use Rattle.language.specs.Encoding.{formals_fields, block_fields}
 use Rattle.language.specs.Structure as structure
 use Rattle.language.specs.Scope.{Scope, fine, wrong, judge_block, judge_decl, judge_stmt, ◌then◌}
 use Rattle.language.specs.Scope as definitions
-use Rattle.check_records.specs.declared.Progress.{Progress}
-use Rattle.check_records.specs.declared.Progress.TheVariants.{At, Refused}
+use Rattle.language.specs.Faults.{fault, Progress, Verdict}
 use Rattle.grammar.specs.Rules.{FormedFormals, FormedBlock, FormedDecl, FormedStmt}
 use Rattle.check_uses.specs.Meanings.{verdict_of, scope_from}
 use Rattle.laws.specs.Fields.{FieldsStand}
 use Rattle.check_symbols.specs.Chains.{Chained}
 use Rattle.check_extents.specs.Passing.{Ends}
 use Rattle.check_extents.specs.Items.{Item, formal, body, declared, stated, item_fields, items_fields}
-use Rattle.language.specs.declared.Verdict.{Verdict}
-use Rattle.language.specs.declared.Verdict.TheVariants.{Fit}
-use Rattle.language.specs.declared.Verdict.TheVariants as verdicts
 
 -- a verdict, with where the walk goes on
 abbrev pub progress_of : definitions.Judgement → ℕ → Progress
-progress_of fine end = At end
-progress_of (wrong c o) end = Refused c o
+progress_of fine end = Ok end
+progress_of (wrong c o) end = Err (fault c o)
 
 -- where the walk goes on, it does not go back, nor far past the n bytes
 abbrev pub Ahead : ℕ → ℕ → Progress → Type 0
-Ahead at n (At end) = (at ≤ end) × (end ≤ n + 131076)
-Ahead at n (Refused c o) = Unit {0}
+Ahead at n (Ok end) = (at ≤ end) × (end ≤ n + 131076)
+Ahead at n (Err e) = Unit {0}
 
 -- declarations and statements
 unfoldable pub judge_item : Item → Scope → definitions.Judgement
@@ -70,8 +66,8 @@ pub record ItemHere (bs : List ℕ) (at top : ℕ) (x : Item) (level s : ℕ) : 
   pub room : 1280 ≤ top + 32 * level
 
 abbrev pub settled_of : Progress → Verdict
-settled_of (At end) = Fit
-settled_of (Refused c o) = verdicts.Refused c o
+settled_of (Ok end) = Ok tt
+settled_of (Err e) = Err e
 
 -- the definitions' verdict, for a script that they read whole
 abbrev pub Judged : structure.Reading Block → Verdict → Type 0

@@ -5,10 +5,9 @@ ghost use Rattle.check_scope.specs.Walking.{Ready, Kept, Ahead, BlockJudged, Ite
 use check_extents::push;
 use check_fields::word;
 use check_marks::{BK, BK_BYTES, FM_BYTES, LB, LB_BYTES, PR, PR_BYTES, VR, VR_BYTES};
-use check_records::Progress;
 use check_statements::action;
 use check_symbols::{insert, remove};
-use language::Refusal;
+use language::{Fault, Refusal};
 
 // So many formals at an offset and their block after them. Its names are put below `top` before any of its text is judged.
 #[cycle(block_item_items)]
@@ -19,7 +18,7 @@ pub fn block(
     at: usize,
     count: usize,
     top: usize,
-) -> Progress
+) -> Result<usize, Fault>
     requires { Ready script.now entries.old ends.old top × (at ≤ 500000) × (count < 65536) }
     ensures judged { BlockJudged script.now entries.old at count top result }
     ensures ahead { Ahead at (length script.now) result }
@@ -27,12 +26,18 @@ pub fn block(
 {
     let start = at + FM_BYTES * count;
     if word(script, start) != BK {
-        return Progress::Refused(Refusal::MarkMisplaced, start);
+        return Err(Fault {
+            cause: Refusal::MarkMisplaced,
+            offset: start,
+        });
     }
     let d = word(script, start + 2);
     let s = word(script, start + 4);
     if top < 768 + (count + d) {
-        return Progress::Refused(Refusal::TooManyNames, start);
+        return Err(Fault {
+            cause: Refusal::TooManyNames,
+            offset: start,
+        });
     }
     let base = top - (count + d);
     push(script, entries, ends, start + BK_BYTES, d, base + count);
@@ -52,7 +57,7 @@ fn items(
     at: usize,
     count: usize,
     top: usize,
-) -> Progress
+) -> Result<usize, Fault>
     requires { Ready script.now entries.old ends.old top × (at ≤ length script.now + 131076) × (count ≤ 131070) }
     ensures judged { ItemsJudged script.now entries.old at count top result }
     ensures ahead { Ahead at (length script.now) result }
@@ -62,16 +67,15 @@ fn items(
     let mut i = 0;
     while i < count {
         if script.len() <= here {
-            return Progress::Refused(Refusal::PastTheEnd, here);
+            return Err(Fault {
+                cause: Refusal::PastTheEnd,
+                offset: here,
+            });
         }
-        let judged = item(script, entries, ends, here, top);
-        let Progress::At(next) = judged else {
-            return judged;
-        };
-        here = next;
+        here = item(script, entries, ends, here, top)?;
         i += 1;
     }
-    Progress::At(here)
+    Ok(here)
 }
 
 // One declaration or statement.
@@ -82,7 +86,7 @@ fn item(
     ends: &mut [u32; 683],
     at: usize,
     top: usize,
-) -> Progress
+) -> Result<usize, Fault>
     requires { Ready script.now entries.old ends.old top × (at < length script.now) }
     ensures judged { ItemJudged script.now entries.old at top result }
     ensures ahead { Ahead at (length script.now) result }
@@ -103,10 +107,10 @@ fn item(
         return block(script, entries, ends, at, 0, top);
     }
     if mark == VR {
-        return Progress::At(at + VR_BYTES);
+        return Ok(at + VR_BYTES);
     }
     if mark == LB {
-        return Progress::At(at + LB_BYTES);
+        return Ok(at + LB_BYTES);
     }
     action(script, entries, top, at, mark)
 }

@@ -5,14 +5,11 @@ ghost use Rattle.std.specs.Prelude.{◌≡◌};
 ghost use Rattle.language.specs.Check.{check};
 ghost use Rattle.check_script.specs.Verdicts.{verdict_of};
 
-use language::Verdict;
+use language::Fault;
 
-pub fn check_script(script: &[u8]) -> Verdict
+pub fn check_script(script: &[u8]) -> Result<(), Fault>
     ensures { result ≡ verdict_of (check script.now) }
 {
-    let structure = check_structure::structure(script);
-    let Verdict::Fit = structure else {
-        return structure;
-    };
+    check_structure::structure(script)?;
     check_scope::scope_verdict(script)
 }

@@ -9,8 +9,8 @@ use borrow.Author.Tests.{eq-eqb, ne_eqb}
 use Rattle.language.specs.Text.{Kind, variable}
 use Rattle.language.specs.Encoding.{CL-mark, GO-mark, IF-mark, KN-mark, AR-mark, QY-mark}
 use Rattle.language.specs.Scope.{uses}
-use Rattle.language.specs.declared.Verdict.{Verdict}
-use Rattle.check_records.specs.declared.Progress.{Progress}
+use Rattle.language.specs.Faults.{Verdict}
+use Rattle.language.specs.Faults.{Progress}
 use Rattle.laws.specs.Fields.{field_at}
 use Rattle.check_extents.specs.Passing.{Alone}
 use Rattle.check_uses.specs.Meanings.{scope_from, verdict_of, pair_judged}

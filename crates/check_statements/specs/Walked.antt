@@ -1,18 +1,14 @@
 -- A statement other than BK judged, and where the walk goes on.
-use Rattle.std.specs.Prelude.{ℕ, List, ◌≡◌}
-use Rattle.language.specs.declared.Verdict.{Verdict}
-use Rattle.language.specs.declared.Verdict.TheVariants.{Fit}
-use Rattle.language.specs.declared.Verdict.TheVariants as verdicts
-use Rattle.check_records.specs.declared.Progress.{Progress}
-use Rattle.check_records.specs.declared.Progress.TheVariants.{At, Refused}
+use Rattle.std.specs.Prelude.{ℕ, List, ◌≡◌, Ok, Err}
+use Rattle.language.specs.Faults.{Verdict, Progress}
 use Rattle.laws.specs.Fields.{field_at}
 use Rattle.check_extents.specs.Passing.{Alone}
 use Rattle.check_uses.specs.Meanings.{scope_from, verdict_of}
 use Rattle.check_statements.specs.Shapes.{shape_of, judged_as}
 
 abbrev pub progress_after : Verdict → ℕ → Progress
-progress_after Fit end = At end
-progress_after (verdicts.Refused c o) end = Refused c o
+progress_after (Ok u) end = Ok end
+progress_after (Err e) end = Err e
 
 pub record Walked (bs es : List ℕ) (top at : ℕ) (r : Progress) : Type 0 where
   pub verdict : Verdict

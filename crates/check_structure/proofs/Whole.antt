@@ -1,4 +1,5 @@
 -- The whole structure: the length first, the program, then bytes after it. Assumes nothing.
+use Rattle.std.specs.Prelude.{Ok, Err}
 use mathlib.Core.Path.{◌≡◌, refl, sym, ◌∙◌, ap}
 use mathlib.Core.Bool.{Bool, true, false, ◌&&◌}
 use mathlib.Core.List.{List, [], ◌∷◌}
@@ -15,49 +16,47 @@ use Rattle.language.specs.declared.Refusal.{Refusal}
 use Rattle.language.specs.declared.Refusal.TheVariants.{ScriptLength, BytesAfter}
 use Rattle.check_marks.specs.declared.Mark.{Mark}
 use Rattle.check_marks.specs.declared.Place.TheVariants.{Block as ABlock}
-use Rattle.check_records.specs.declared.Progress.{Progress}
-use Rattle.check_records.specs.declared.Progress.TheVariants.{At, Refused}
+use Rattle.language.specs.Faults.{fault, Progress, Verdict}
 use Rattle.check_records.specs.declared.Reading.{Reading}
 use Rattle.check_records.specs.declared.Reading.TheVariants.{Taken}
 use Rattle.check_records.specs.Taking.{unread, record_at, progress_of, forget}
 use Rattle.check_records.proofs.Unread.{unread-enough, unread-short}
-use Rattle.language.specs.declared.Verdict.{Verdict}
 use Rattle.check_structure.specs.Structure.{ended_of, closing, structure_of}
 use Rattle.check_blocks.proofs.Lands.{Lands, Tracks, tracks_bind, tracks-take, tracks-block}
 use Rattle.check_blocks.proofs.BlockLaws.{head-stops, head-goes-on}
 
-closing-more : (end n : ℕ) → end < n → closing (At end) n ≡ Verdict.Refused BytesAfter end
+closing-more : (end n : ℕ) → end < n → closing (Ok end) n ≡ Err (fault BytesAfter end)
 unfolding closing
 closing-more end n h = rw (lt-ltb end n h, closing)
 
-closing-none : (end n : ℕ) → n ≤ end → closing (At end) n ≡ Verdict.Fit
+closing-none : (end n : ℕ) → n ≤ end → closing (Ok end) n ≡ Ok tt
 unfolding closing
 closing-none end n h = rw (le-ltb end n h, closing)
 
 -- as the code finds where reading ended
 module _ (n : ℕ) {p : Progress} where
-  pub ended-early : {end : ℕ} → p ≡ At end → end < n → Verdict.Refused BytesAfter end ≡ closing p n
+  pub ended-early : {end : ℕ} → p ≡ Ok end → end < n → Err (fault BytesAfter end) ≡ closing p n
   ended-early {end} e h = sym (ap (λ q. closing q n) e ∙ closing-more end n h)
 
-  pub ended-last : {end : ℕ} → p ≡ At end → n ≤ end → Verdict.Fit ≡ closing p n
+  pub ended-last : {end : ℕ} → p ≡ Ok end → n ≤ end → Ok tt ≡ closing p n
   ended-last {end} e h = sym (ap (λ q. closing q n) e ∙ closing-none end n h)
 
-  pub ended-refused : {c : Refusal} {o : ℕ} → p ≡ Refused c o → Verdict.Refused c o ≡ closing p n
+  pub ended-refused : {c : Refusal} {o : ℕ} → p ≡ Err (fault c o) → Err (fault c o) ≡ closing p n
   unfolding closing
   ended-refused e = sym (ap (λ q. closing q n) e)
 
-ended-more : (t : Block) (end : ℕ) (ws : List ℕ) → 1 ≤ length ws → ended_of (read t end ws) ≡ Verdict.Refused BytesAfter end
+ended-more : (t : Block) (end : ℕ) (ws : List ℕ) → 1 ≤ length ws → ended_of (read t end ws) ≡ Err (fault BytesAfter end)
 unfolding ended_of
 ended-more t end [] h = absurd (omega arith)
 ended-more t end (w ∷ ws) h = refl
 
-ended-none : (t : Block) (end : ℕ) (ws : List ℕ) → length ws < 1 → ended_of (read t end ws) ≡ Verdict.Fit
+ended-none : (t : Block) (end : ℕ) (ws : List ℕ) → length ws < 1 → ended_of (read t end ws) ≡ Ok tt
 unfolding ended_of
 ended-none t end [] h = refl
 ended-none t end (w ∷ ws) h = absurd (omega arith)
 
 module _ (bs : List ℕ) (even : length bs % 2 ≡ 0) where
-  closed-read : (t : Block) (end : ℕ) → end % 2 ≡ 0 → Dec (end < length bs) → ended_of (read t end (unread bs end)) ≡ closing (At end) (length bs)
+  closed-read : (t : Block) (end : ℕ) → end % 2 ≡ 0 → Dec (end < length bs) → ended_of (read t end (unread bs end)) ≡ closing (Ok end) (length bs)
   closed-read t end e (yes h) = ended-more t end (unread bs end) (unread-enough bs end 1 (omega arith)) ∙ sym (closing-more end (length bs) h)
   closed-read t end e (no h) =
       ended-none t end (unread bs end) (unread-short bs end 1 (omega arith) (omega arith))
@@ -75,7 +74,7 @@ tracks-program bs = tracks_bind bs (tracks-take bs block_marks) λ b. tracks-blo
 
 -- the length, as the code tests it
 module _ (bs : List ℕ) where
-  misfit : length_fits bs ≡ false → Verdict.Refused ScriptLength 0 ≡ structure_of bs
+  misfit : length_fits bs ≡ false → Err (fault ScriptLength 0) ≡ structure_of bs
   unfolding structure_of
   misfit e = rw (e, structure_of)
 
@@ -86,15 +85,15 @@ module _ (bs : List ℕ) where
   three : (a b c : Bool) {a' b' c' : Bool} → a ≡ a' → b ≡ b' → c ≡ c' → (a && b && c) ≡ (a' && b' && c')
   three a b c p q r = cc
 
-  pub empty : length bs ≡ 0 → Verdict.Refused ScriptLength 0 ≡ structure_of bs
+  pub empty : length bs ≡ 0 → Err (fault ScriptLength 0) ≡ structure_of bs
   unfolding length_fits
   empty h = misfit (ap (λ b. b && leb (length bs) 8192 && eqb (length bs % 2) 0) (lt-leb 1 (length bs) (omega arith)))
 
-  pub too_long : (length bs ≡ 0 → ⊥) → 8192 < length bs → Verdict.Refused ScriptLength 0 ≡ structure_of bs
+  pub too_long : (length bs ≡ 0 → ⊥) → 8192 < length bs → Err (fault ScriptLength 0) ≡ structure_of bs
   unfolding length_fits
   too_long z h = misfit (three _ _ _ (le-leb 1 (length bs) (omega arith)) (lt-leb (length bs) 8192 h) refl)
 
-  pub odd : (length bs ≡ 0 → ⊥) → length bs ≤ 8192 → length bs % 2 ≡ 1 → Verdict.Refused ScriptLength 0 ≡ structure_of bs
+  pub odd : (length bs ≡ 0 → ⊥) → length bs ≤ 8192 → length bs % 2 ≡ 1 → Err (fault ScriptLength 0) ≡ structure_of bs
   unfolding length_fits
   odd z h o = misfit (three _ _ _ (le-leb 1 (length bs) (omega arith)) (le-leb (length bs) 8192 h) (ne_eqb (length bs % 2) 0 (λ e. omega arith)))
 

@@ -4,38 +4,50 @@
 ghost use Rattle.std.specs.Prelude.{◌≡◌};
 ghost use Rattle.check_structure.specs.Structure.{closing, structure_of};
 
-use check_records::{Progress, Reading};
-use language::{Refusal, Verdict};
+use check_records::Reading;
+use language::{Fault, Refusal};
 
 const LONGEST: usize = 8192;
 
 // 5 where reading ended before the last byte.
-fn ended(p: Progress, n: usize) -> Verdict
+fn ended(p: Result<usize, Fault>, n: usize) -> Result<(), Fault>
     ensures { result ≡ closing p n }
 {
     match p {
-        Progress::At(end) => {
+        Ok(end) => {
             if end < n {
-                return Verdict::Refused(Refusal::BytesAfter, end);
+                return Err(Fault {
+                    cause: Refusal::BytesAfter,
+                    offset: end,
+                });
             }
-            Verdict::Fit
+            Ok(())
         }
-        Progress::Refused(c, o) => Verdict::Refused(c, o),
+        Err(fault) => Err(fault),
     }
 }
 
-pub fn structure(script: &[u8]) -> Verdict
+pub fn structure(script: &[u8]) -> Result<(), Fault>
     ensures { result ≡ structure_of script.now }
 {
     let n = script.len();
     if n == 0 {
-        return Verdict::Refused(Refusal::ScriptLength, 0);
+        return Err(Fault {
+            cause: Refusal::ScriptLength,
+            offset: 0,
+        });
     }
     if LONGEST < n {
-        return Verdict::Refused(Refusal::ScriptLength, 0);
+        return Err(Fault {
+            cause: Refusal::ScriptLength,
+            offset: 0,
+        });
     }
     if n % 2 == 1 {
-        return Verdict::Refused(Refusal::ScriptLength, 0);
+        return Err(Fault {
+            cause: Refusal::ScriptLength,
+            offset: 0,
+        });
     }
     let reading = check_readers::read_block(script, 0);
     let Reading::Taken { next, f0, f1, .. } = reading else {

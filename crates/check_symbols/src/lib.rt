@@ -7,13 +7,6 @@ ghost use Rattle.std.specs.Prelude.{◌≡◌, ◌+◌, ◌%◌, ◌^◌, ◌<�
 ghost use Rattle.check_symbols.specs.Entries.{found_in, Near, Seeking, entry_from};
 ghost use Rattle.check_symbols.specs.Chains.{Chained, Rechained};
 
-// What is kept of a name.
-#[derive(Clone, Copy)]
-pub enum Binding {
-    At(usize),
-    Nothing,
-}
-
 // No chain has an entry. What the other places hold is not read before it is written, so an array need not be filled with more than zeros.
 pub fn empty_chains(entries: &mut [usize])
     requires { length entries.old ≡ 1280 }
@@ -57,8 +50,8 @@ fn after(entries: &[usize], top: usize, at: usize, name: usize) -> usize
     at + 1
 }
 
-// What the first entry from `top` on with a name keeps of it.
-pub fn find(entries: &[usize], top: usize, name: usize) -> Binding
+// What the first entry from `top` on with a name keeps of it, if there is one.
+pub fn find(entries: &[usize], top: usize, name: usize) -> Option<usize>
     requires { Chained entries.now top }
     ensures { (result ≡ found_in name (drop top entries.now)) × Near result }
 {
@@ -66,11 +59,11 @@ pub fn find(entries: &[usize], top: usize, name: usize) -> Binding
     while i < entries.len() {
         let e = entries[i];
         if e % 65536 == name {
-            return Binding::At(e / 65536);
+            return Some(e / 65536);
         }
         i = after(entries, top, i, name);
     }
-    Binding::Nothing
+    None
 }
 
 fn later(i: usize, at: usize) -> usize

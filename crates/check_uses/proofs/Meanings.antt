@@ -1,5 +1,6 @@
 -- What is found among the entries is what the definitions look up; the meaning that each mark gives.
 -- Assumes nothing.
+use Rattle.std.specs.Prelude.{Some, None, Ok, Err}
 use mathlib.Core.Path.{◌≡◌, refl, sym, ap, ◌∙◌}
 use mathlib.Core.Bool.{Bool, true, false}
 use mathlib.Core.List.{List, [], ◌∷◌}
@@ -15,16 +16,14 @@ use Rattle.language.specs.Scope.{Meaning, fine, wrong, of_kind}
 use Rattle.language.specs.Scope as definitions
 use Rattle.language.specs.declared.Refusal.TheVariants.{NotVisible, WrongKind}
 use Rattle.laws.specs.Fields.{field_at}
-use Rattle.language.specs.declared.Verdict.{Verdict}
-use Rattle.language.specs.declared.Verdict.TheVariants.{Fit, Refused}
+use Rattle.language.specs.Faults.{fault, Verdict}
 use Rattle.check_uses.specs.Meanings.{kind_from, kinds_at, meaning_at, scope_of, verdict_of}
 use Rattle.check_symbols.specs.Entries.{found_in}
-use Rattle.check_symbols.specs.declared.Binding.{Binding}
-use Rattle.check_symbols.specs.declared.Binding.TheVariants.{At, Nothing}
+use Rattle.check_symbols.specs.Entries.{Binding}
 
 abbrev pub meant : List ℕ → Binding → Option Meaning
-meant bs (At place) = some (meaning_at bs place)
-meant bs Nothing = none
+meant bs (Some place) = some (meaning_at bs place)
+meant bs None = none
 
 found-case : (bs : List ℕ) (n e : ℕ) (es : List ℕ) (b : Bool) → eqb n (e % 65536) ≡ b → lookup n (scope_of bs es) ≡ meant bs (found_in n es) → lookup n (scope_of bs (e ∷ es)) ≡ meant bs (found_in n (e ∷ es))
 unfolding found_in scope_of lookup
@@ -107,15 +106,15 @@ kinds-differ k j e = same_kind_lem k j ∙ ne_eqb _ _ e
 
 -- a use, by what is found
 module _ (bs : List ℕ) (es : List ℕ) (at : ℕ) (k : Kind) (n : ℕ) where
-  use-none : found_in n es ≡ Nothing → definitions.uses (scope_of bs es) at k n ≡ wrong NotVisible at
+  use-none : found_in n es ≡ None → definitions.uses (scope_of bs es) at k n ≡ wrong NotVisible at
   unfolding definitions.uses of_kind
   use-none e = rw (found-lookup bs n es, e)
 
-  pub use-right : (place : ℕ) → found_in n es ≡ At place → kind_field (meaning_at bs place).kind ≡ kind_field k → definitions.uses (scope_of bs es) at k n ≡ fine
+  pub use-right : (place : ℕ) → found_in n es ≡ Some place → kind_field (meaning_at bs place).kind ≡ kind_field k → definitions.uses (scope_of bs es) at k n ≡ fine
   unfolding definitions.uses of_kind
   use-right place e f = rw (found-lookup bs n es, e, kinds-agree k (meaning_at bs place).kind f, of_kind)
 
-  use-wrong : (place : ℕ) → found_in n es ≡ At place → (kind_field (meaning_at bs place).kind ≡ kind_field k → ⊥) → definitions.uses (scope_of bs es) at k n ≡ wrong WrongKind at
+  use-wrong : (place : ℕ) → found_in n es ≡ Some place → (kind_field (meaning_at bs place).kind ≡ kind_field k → ⊥) → definitions.uses (scope_of bs es) at k n ≡ wrong WrongKind at
   unfolding definitions.uses of_kind
   use-wrong place e f = rw (found-lookup bs n es, e, kinds-differ k (meaning_at bs place).kind f, of_kind)
 
@@ -124,12 +123,12 @@ module _ (bs es : List ℕ) (at k n : ℕ) (b : Binding) (found : b ≡ found_in
   abbrev judged : Verdict
   judged = verdict_of (definitions.uses (scope_of bs es) at (kind_from k) n)
 
-  pub used-none : b ≡ Nothing → Refused NotVisible at ≡ judged
+  pub used-none : b ≡ None → Err (fault NotVisible at) ≡ judged
   used-none e = sym (ap verdict_of (use-none bs es at (kind_from k) n (sym found ∙ e)))
 
-  module _ (place x : ℕ) (there : b ≡ At place) (is : x ≡ kind_field (meaning_at bs place).kind) (small : k ≤ 2) where
-    pub used-right : x ≡ k → Fit ≡ judged
+  module _ (place x : ℕ) (there : b ≡ Some place) (is : x ≡ kind_field (meaning_at bs place).kind) (small : k ≤ 2) where
+    pub used-right : x ≡ k → Ok tt ≡ judged
     used-right e = sym (ap verdict_of (use-right bs es at (kind_from k) n place (sym found ∙ there) (sym is ∙ e ∙ kind-is k small)))
 
-    pub used-wrong : (x ≡ k → ⊥) → Refused WrongKind at ≡ judged
+    pub used-wrong : (x ≡ k → ⊥) → Err (fault WrongKind at) ≡ judged
     used-wrong e = sym (ap verdict_of (use-wrong bs es at (kind_from k) n place (sym found ∙ there) (λ p. e (is ∙ p ∙ sym (kind-is k small)))))

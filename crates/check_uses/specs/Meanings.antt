@@ -1,13 +1,12 @@
 -- The visible names as the check keeps them: an entry holds the offset of the record that declares its name, from whose bytes the name's
 -- meaning is read.
-use Rattle.std.specs.Prelude.{ℕ, zero, suc, ◌+◌, ◌/◌, ◌%◌, true, false, List, [], ◌∷◌, map, eqb, drop}
+use Rattle.std.specs.Prelude.{ℕ, zero, suc, ◌+◌, ◌/◌, ◌%◌, true, false, List, [], ◌∷◌, map, eqb, drop, Ok, Err}
 use Rattle.std.proofs.Math.Option.{none, some}
 use Rattle.language.specs.Text.{Kind, variable, label, procedure}
 use Rattle.language.specs.Encoding.{LB-mark, PR-mark, FM-mark}
 use Rattle.language.specs.Scope.{Meaning, Scope, fine, wrong, uses, ◌then◌}
 use Rattle.language.specs.Scope as definitions
-use Rattle.language.specs.declared.Verdict.{Verdict}
-use Rattle.language.specs.declared.Verdict.TheVariants.{Fit, Refused}
+use Rattle.language.specs.Faults.{fault, Verdict}
 use Rattle.laws.specs.Fields.{field_at}
 
 abbrev pub kind_from : ℕ → Kind
@@ -44,8 +43,8 @@ scope_from bs es top = scope_of bs (drop top es)
 
 -- a verdict as the code gives it
 abbrev pub verdict_of : definitions.Judgement → Verdict
-verdict_of fine = Fit
-verdict_of (wrong c o) = Refused c o
+verdict_of fine = Ok tt
+verdict_of (wrong c o) = Err (fault c o)
 
 -- two names of one record, and three variables, left to right
 abbrev pub pair_judged : Scope → ℕ → Kind → ℕ → Kind → ℕ → definitions.Judgement

@@ -10,8 +10,8 @@ ghost use Rattle.check_symbols.specs.Chains.{Chained};
 
 use check_fields::word;
 use check_marks::{FM, LB, PR};
-use check_symbols::{Binding, find};
-use language::{Refusal, Verdict};
+use check_symbols::find;
+use language::{Fault, Refusal};
 
 pub fn kind_number(x: usize) -> usize
     ensures { result ≡ kind_field (kind_from x) }
@@ -48,17 +48,23 @@ pub fn uses(
     at: usize,
     kind: usize,
     name: usize,
-) -> Verdict
+) -> Result<(), Fault>
     requires { (kind ≤ 2) × Chained entries.now top }
     ensures { result ≡ verdict_of (definitions.uses (scope_from script.now entries.now top) at (kind_from kind) name) }
 {
-    let Binding::At(place) = find(entries, top, name) else {
-        return Verdict::Refused(Refusal::NotVisible, at);
+    let Some(place) = find(entries, top, name) else {
+        return Err(Fault {
+            cause: Refusal::NotVisible,
+            offset: at,
+        });
     };
     if kind_at(script, place) == kind {
-        return Verdict::Fit;
+        return Ok(());
     }
-    Verdict::Refused(Refusal::WrongKind, at)
+    Err(Fault {
+        cause: Refusal::WrongKind,
+        offset: at,
+    })
 }
 
 // Two names of the record at an offset, left to right, and the kinds wanted.
@@ -71,15 +77,12 @@ pub fn both(
     first: usize,
     other: usize,
     second: usize,
-) -> Verdict
+) -> Result<(), Fault>
     requires { (kind ≤ 2) × (other ≤ 2) × (first < 2 ^ 33) × (second < 2 ^ 33) × Chained entries.now top }
     ensures { result ≡ verdict_of (pair_judged (scope_from script.now entries.now top) at
         (kind_from kind) (field_at script.now first) (kind_from other) (field_at script.now second)) }
 {
-    let one = uses(script, entries, top, at, kind, word(script, first));
-    let Verdict::Fit = one else {
-        return one;
-    };
+    uses(script, entries, top, at, kind, word(script, first))?;
     uses(script, entries, top, at, other, word(script, second))
 }
 
@@ -92,14 +95,11 @@ pub fn three(
     first: usize,
     second: usize,
     third: usize,
-) -> Verdict
+) -> Result<(), Fault>
     requires { (first < 2 ^ 33) × (second < 2 ^ 33) × (third < 2 ^ 33) × Chained entries.now top }
     ensures { result ≡ verdict_of (triple_judged (scope_from script.now entries.now top) at
         (field_at script.now first) (field_at script.now second) (field_at script.now third)) }
 {
-    let one = uses(script, entries, top, at, 0, word(script, first));
-    let Verdict::Fit = one else {
-        return one;
-    };
+    uses(script, entries, top, at, 0, word(script, first))?;
     both(script, entries, top, at, 0, second, 0, third)
 }

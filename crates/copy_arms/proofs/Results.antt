@@ -10,8 +10,8 @@ use lib.Signed.{mag, lt_z}
 use Rattle.language.specs.Basics.{eq_z}
 use Rattle.language.specs.Text.{Operation, less}
 use Rattle.language.specs.Machine.{compute}
-use Rattle.run_moves.specs.declared.Effect.{Effect}
-use Rattle.run_moves.specs.declared.Effect.TheVariants.{Done}
+use Rattle.run_moves.specs.Effects.{Effect}
+use Rattle.std.specs.Prelude.{Ok}
 use Rattle.run_moves.specs.declared.Move.{Move}
 use Rattle.run_moves.specs.declared.Move.TheVariants.{On}
 use Rattle.run_moves.specs.Effects.{effect_of, cells_of}
@@ -26,7 +26,7 @@ unfolding compute
 less-small a b true e = rw (compute, e)
 less-small a b false e = rw (compute, e)
 
-less_done : (a b : ℤ) → Done ≡ effect_of (compute less a b)
+less_done : (a b : ℤ) → Ok tt ≡ effect_of (compute less a b)
 unfolding effect_of
 less_done a b = rw (effect_of, less-small a b (lt_z a b) refl)
 

@@ -8,8 +8,8 @@ ghost use Rattle.runs.specs.Admission.{Admitted};
 ghost use Rattle.call_admission.specs.Lent.{fed_of};
 ghost use Rattle.call_answers.specs.Replies.{Answers, AnswersLeaving};
 
-use call_admission::{Area, CallNumbers};
-use language::{Answer, Verdict};
+use call_admission::CallNumbers;
+use language::Answer;
 
 // What comes of a call that is admitted.
 fn ran(
@@ -75,18 +75,10 @@ pub fn call(
         result sheet.new table.new groups.new area.old area.new }
 {
     let held = area.len();
-    match call_admission::admit(
-        script,
-        numbers,
-        table,
-        groups,
-        sheet,
-        Area::Unused,
-        Area::Of(held),
-    ) {
-        Verdict::Refused(cause, offset) => {
-            call_answers::refused_answer(cause, offset, numbers.count, numbers.tally)
+    match call_admission::admit(script, numbers, table, groups, sheet, None, Some(held)) {
+        Err(fault) => {
+            call_answers::refused_answer(fault.cause, fault.offset, numbers.count, numbers.tally)
         }
-        Verdict::Fit => ran(script, numbers, table, groups, sheet, area),
+        Ok(()) => ran(script, numbers, table, groups, sheet, area),
     }
 }

@@ -13,8 +13,8 @@ use Rattle.language.specs.Text.{Operation}
 use Rattle.language.specs.Encoding.{signed}
 use Rattle.language.specs.Machine.{compute}
 use Rattle.laws.specs.Tests.{split}
-use Rattle.run_moves.specs.declared.Effect.{Effect as Done-or-not}
-use Rattle.run_moves.specs.declared.Effect.TheVariants.{Done, Stopped}
+use Rattle.run_moves.specs.Effects.{Effect as Done-or-not}
+use Rattle.std.specs.Prelude.{Ok, Err}
 use Rattle.run_moves.specs.declared.Move.{Move}
 use Rattle.run_moves.specs.declared.Ask.{Ask}
 use Rattle.run_moves.specs.declared.Ask.TheVariants.{Query}
@@ -40,8 +40,8 @@ module _ (c : Copy) (s : Scene) (F : Finding) where
 
   move_same : (e : Done-or-not) → move_after e (s.at + 5) ≡ arithmetic_move F s e
   unfolding move_after arithmetic_move
-  move_same Done = refl
-  move_same (Stopped e) = refl
+  move_same (Ok u) = refl
+  move_same (Err e) = refl
 
   pub arithmetic-same : (o : Operation) → operation_of (text c s 2) ≡ o → Agrees 1 1 → Agrees 3 3 → Agrees 4 4 → do_arithmetic c s ≡ act_arithmetic F s o
   unfolding do_arithmetic act_arithmetic

@@ -1,7 +1,7 @@
 -- A step of the copying engine, by what the statement comes to (`Came`). For each move: the engine goes on (`went_on`, `answered-on`), or may leave, jump or
 -- enter (`leave-ready`, `jump-ready`, `enter-ready`) and stands after the step once it has (`left-on`, `jumped-on`, `entered_on`), or stops (`stopped-at`);
 -- the list stays beside the table (`left-keeps`, `jumped-keeps`, `entered-keeps`).
-use Rattle.std.specs.Prelude.{ℕ, suc, ◌+◌, ◌-◌, ◌*◌, ◌≤◌, ◌<◌, List, ◌≡◌, refl, ℤ, length, get_or}
+use Rattle.std.specs.Prelude.{ℕ, suc, ◌+◌, ◌-◌, ◌*◌, ◌≤◌, ◌<◌, List, ◌≡◌, refl, ℤ, length, get_or, Ok, Err}
 use Rattle.std.proofs.Common.{arith, mul-le-mul_right, sym, ap, ◌∙◌, subst}
 use Rattle.language.specs.declared.Stop.{Stop as Cause}
 use Rattle.frames.specs.Frame.{Frame, numbered, halted, frame_step}
@@ -9,8 +9,7 @@ use Rattle.run_moves.specs.declared.Move.{Move}
 use Rattle.run_moves.specs.declared.Move.TheVariants.{On, Table as Asks, Jump, Enter, Stop}
 use Rattle.run_moves.specs.declared.Ask.{Ask}
 use Rattle.run_moves.specs.Acting.{Happened, answer}
-use Rattle.table_pairs.specs.declared.Change.{Change}
-use Rattle.table_pairs.specs.declared.Change.TheVariants.{Done as Count, Stopped as Halted}
+use Rattle.table_pairs.specs.Outcomes.{Change}
 use Rattle.resolved.specs.Layout.{end_in}
 use Rattle.run_statements.specs.Answers.{Answered, turn_after, done-goes, stopped-halts}
 use Rattle.steps.specs.Means.{GoesOn, JumpsTo, EntersAt, AnswerMeans, MoveMeans}
@@ -124,8 +123,8 @@ module _ {code names : List ℕ} {activations limit : ℕ} {cells : List ℤ} {a
       by-change : (c : Change) (cells'' table'' : List ℤ) → Told c cells'' table''
           → Turned w (turn_after here p c) cells'' area blocks nexts links firsts starts targets looked table''
       unfolding turn_after
-      by-change (Count n) cells'' table'' k = goes p n cells'' table'' (done-goes w.standing p _ answered (Count n) cells'' table'' k n refl)
-      by-change (Halted c) cells'' table'' k = stops c cells'' table'' (stopped-halts w.standing p _ answered (Halted c) cells'' table'' k c refl)
+      by-change (Ok n) cells'' table'' k = goes p n cells'' table'' (done-goes w.standing p _ answered (Ok n) cells'' table'' k n refl)
+      by-change (Err c) cells'' table'' k = stops c cells'' table'' (stopped-halts w.standing p _ answered (Err c) cells'' table'' k c refl)
 
       pub answered-on : {c : Change} {cells'' table'' : List ℤ} → Told c cells'' table'' → {n : Turn} → n ≡ turn_after here p c
           → Turned w n cells'' area blocks nexts links firsts starts targets looked table''

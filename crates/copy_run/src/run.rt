@@ -14,11 +14,11 @@ ghost use Rattle.copy_run.specs.Turning.{Ready, Turned, Ended, RunFrom};
 use copy_entry::enter;
 use copy_moves::{begin, looked_up};
 use copy_statements::act;
+use language::Stop;
 use run_moves::Ask;
 use run_records::{jump, leave, set_next};
 use run_state::{Halt, Registers, Turn, finished, named, spent, stopped};
 use run_statements::{Moved, after};
-use table_pairs::Change;
 
 // What the table answers.
 fn asked(
@@ -31,7 +31,7 @@ fn asked(
     member: usize,
     target: usize,
     ask: Ask,
-) -> Change
+) -> Result<usize, Stop>
     requires group_bound { (group < 8192) × ((member < 8192) × (target < 8192)) }
     requires has_list { HasList limit table.old pairs groups.old }
     ensures value { result ≡ change_of (answer limit cells.old (table_of table.old pairs) group member target ask).effect }

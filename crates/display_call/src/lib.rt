@@ -7,8 +7,8 @@ ghost use Rattle.runs.specs.Admission.{Admitted};
 ghost use Rattle.call_admission.specs.Lent.{fed_of};
 ghost use Rattle.call_answers.specs.Replies.{Answers};
 
-use call_admission::{Area, CallNumbers};
-use language::{Answer, Verdict};
+use call_admission::CallNumbers;
+use language::Answer;
 
 // What comes of a call that is admitted.
 fn ran(
@@ -67,18 +67,10 @@ pub fn call(
 ) -> Answer
     ensures { Answers display (fed_of numbers script.now table.old groups.old sheet.old) result sheet.new table.new groups.new }
 {
-    match call_admission::admit(
-        script,
-        numbers,
-        table,
-        groups,
-        sheet,
-        Area::Unused,
-        Area::Unused,
-    ) {
-        Verdict::Refused(cause, offset) => {
-            call_answers::refused_answer(cause, offset, numbers.count, numbers.tally)
+    match call_admission::admit(script, numbers, table, groups, sheet, None, None) {
+        Err(fault) => {
+            call_answers::refused_answer(fault.cause, fault.offset, numbers.count, numbers.tally)
         }
-        Verdict::Fit => ran(script, numbers, table, groups, sheet),
+        Ok(()) => ran(script, numbers, table, groups, sheet),
     }
 }

@@ -16,7 +16,7 @@ use Rattle.language.specs.Machine.{compute}
 use Rattle.language.specs.declared.Stop.TheVariants.{NoActivationLeft, ArgumentsDiffer}
 use Rattle.run_moves.specs.declared.Ask.{Ask}
 use Rattle.run_moves.specs.declared.Ask.TheVariants.{Query}
-use Rattle.run_moves.specs.declared.Effect.{Effect}
+use Rattle.run_moves.specs.Effects.{Effect}
 use Rattle.run_moves.specs.declared.Move.{Move}
 use Rattle.run_moves.specs.declared.Move.TheVariants.{On, Table as Asks, Jump, Enter, Stop}
 use Rattle.run_moves.specs.Effects.{effect_of, cells_of, same_kinds, handed_word}

@@ -1,7 +1,7 @@
 -- A step of the display engine, by what the statement comes to (`Done`): `act-means`. For each move: the engine goes on (`went_on`, `answered-on`), or
 -- is ready to jump or to enter (`jump-ready`, `enter-ready`), and stands after the step once it has (`jumped-on`, `entered_on`);
 -- the list stays beside the table (`left-keeps`, `jumped-keeps`, `entered-keeps`).
-use Rattle.std.specs.Prelude.{ℕ, ◌≤◌, ◌<◌, ◌≡◌, refl, ℤ}
+use Rattle.std.specs.Prelude.{ℕ, ◌≤◌, ◌<◌, ◌≡◌, refl, ℤ, Ok, Err}
 use mathlib.Core.List.{List}
 use Rattle.std.proofs.Common.{sym, ap, ◌∙◌}
 use Rattle.std.proofs.Math.Path.{subst}
@@ -10,8 +10,7 @@ use Rattle.run_moves.specs.declared.Move.{Move}
 use Rattle.run_moves.specs.declared.Ask.{Ask}
 use Rattle.run_moves.specs.declared.Move.TheVariants.{On, Table as Asks, Jump, Enter, Stop}
 use Rattle.run_moves.specs.Acting.{scene_by, Happened, acting, answer}
-use Rattle.table_pairs.specs.declared.Change.{Change}
-use Rattle.table_pairs.specs.declared.Change.TheVariants.{Done as Count, Stopped as Halted}
+use Rattle.table_pairs.specs.Outcomes.{Change}
 use Rattle.steps.specs.Means.{GoesOn, AnswerMeans, MoveMeans}
 use Rattle.steps.specs.Finding.{finds-by-display}
 use Rattle.steps.specs.Acts.{acting-means}
@@ -96,8 +95,8 @@ module _ {code : List ℕ} {activations limit : ℕ} {cells : List ℤ} {blocks 
 
       by-change : (c : Change) (cells'' table'' : List ℤ) → Told c cells'' table'' → Turned w (turn_after here p c) cells'' blocks nexts links display table''
       unfolding turn_after
-      by-change (Count n) cells'' table'' k = goes p n cells'' table'' (done-goes w.standing p _ answered (Count n) cells'' table'' k n refl)
-      by-change (Halted c) cells'' table'' k = stops c cells'' table'' (stopped-halts w.standing p _ answered (Halted c) cells'' table'' k c refl)
+      by-change (Ok n) cells'' table'' k = goes p n cells'' table'' (done-goes w.standing p _ answered (Ok n) cells'' table'' k n refl)
+      by-change (Err c) cells'' table'' k = stops c cells'' table'' (stopped-halts w.standing p _ answered (Err c) cells'' table'' k c refl)
 
       pub answered-on : (c : Change) (cells'' table'' : List ℤ) → Told c cells'' table'' → (n : Turn) → n ≡ turn_after here p c
           → Turned w n cells'' blocks nexts links display table''

@@ -11,10 +11,10 @@ ghost use Rattle.display_step.specs.Turning.{TurnsTo};
 
 use act::act;
 use display_moves::{enter, jump, leave};
+use language::Stop;
 use run_moves::{Ask, Move};
 use run_state::{Registers, Turn};
 use run_statements::after;
-use table_pairs::Change;
 
 mod act;
 mod arms;
@@ -33,7 +33,7 @@ fn asked(
     member: usize,
     target: usize,
     ask: Ask,
-) -> Change
+) -> Result<usize, Stop>
     requires group_bound { (group < 8192) × ((member < 8192) × (target < 8192)) }
     requires has_list { HasList limit table.old pairs groups.old }
     ensures value { result ≡ change_of (answer limit cells.old (table_of table.old pairs) group member target ask).effect }

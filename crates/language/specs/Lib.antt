@@ -6,6 +6,7 @@ pub mod Encoding
 pub mod Structure
 pub mod Scope
 pub mod Check
+pub mod Faults
 pub mod Table
 pub mod Groups
 pub mod Copy

@@ -35,11 +35,11 @@ pub enum Refusal {
     TableNotRight,
 }
 
-// What the script check says: fit to run, or refused with the cause and the offset to report.
+// Why the script check refuses a script, and the offset to report.
 #[derive(Clone, Copy)]
-pub enum Verdict {
-    Fit,
-    Refused(Refusal, usize),
+pub struct Fault {
+    pub cause: Refusal,
+    pub offset: usize,
 }
 
 #[derive(Clone, Copy)]
@@ -63,37 +63,41 @@ pub struct Answer {
     pub links: u32,
 }
 
-pub fn stop_number(s: Stop) -> u32
-    ensures { result ≡ stop_number s }
-{
-    match s {
-        Stop::ResultTooLarge => 21,
-        Stop::NoActivationLeft => 22,
-        Stop::NumberBelowOne => 23,
-        Stop::GroupFull => 24,
-        Stop::TableFull => 25,
-        Stop::ArgumentsDiffer => 26,
+impl From<Stop> for u32 {
+    ghost from_gives = { λ cause number. number ≡ stop_number cause };
+
+    fn from(cause: Stop) -> u32 {
+        match cause {
+            Stop::ResultTooLarge => 21,
+            Stop::NoActivationLeft => 22,
+            Stop::NumberBelowOne => 23,
+            Stop::GroupFull => 24,
+            Stop::TableFull => 25,
+            Stop::ArgumentsDiffer => 26,
+        }
     }
 }
 
-pub fn refusal_number(r: Refusal) -> u32
-    ensures { result ≡ refusal_number r }
-{
-    match r {
-        Refusal::ScriptLength => 1,
-        Refusal::PastTheEnd => 2,
-        Refusal::MarkMisplaced => 3,
-        Refusal::FieldRange => 4,
-        Refusal::BytesAfter => 5,
-        Refusal::NestingDepth => 6,
-        Refusal::TooManyNames => 7,
-        Refusal::NameTwice => 8,
-        Refusal::NotVisible => 9,
-        Refusal::WrongKind => 10,
-        Refusal::CallMismatch => 11,
-        Refusal::LimitRange => 12,
-        Refusal::AreaTooShort => 13,
-        Refusal::TableNotRight => 14,
+impl From<Refusal> for u32 {
+    ghost from_gives = { λ cause number. number ≡ refusal_number cause };
+
+    fn from(cause: Refusal) -> u32 {
+        match cause {
+            Refusal::ScriptLength => 1,
+            Refusal::PastTheEnd => 2,
+            Refusal::MarkMisplaced => 3,
+            Refusal::FieldRange => 4,
+            Refusal::BytesAfter => 5,
+            Refusal::NestingDepth => 6,
+            Refusal::TooManyNames => 7,
+            Refusal::NameTwice => 8,
+            Refusal::NotVisible => 9,
+            Refusal::WrongKind => 10,
+            Refusal::CallMismatch => 11,
+            Refusal::LimitRange => 12,
+            Refusal::AreaTooShort => 13,
+            Refusal::TableNotRight => 14,
+        }
     }
 }
 
@@ -116,7 +120,7 @@ pub fn cause_number(e: End) -> u32
     match e {
         End::Finished => 0,
         End::Spent => 0,
-        End::Stopped(s) => stop_number(s),
-        End::Refused(r) => refusal_number(r),
+        End::Stopped(s) => u32::from(s),
+        End::Refused(r) => u32::from(r),
     }
 }

@@ -7,7 +7,7 @@ ghost use Rattle.language.specs.Groups.{list_fits, list_right};
 ghost use Rattle.table_pairs.specs.Outcomes.{table_of};
 ghost use Rattle.measure.specs.Found.{place_or};
 
-use table_search::{PairPlace, place_of};
+use table_search::place_of;
 use table_test::table_and_list_right;
 
 // Whether the table is right for a group limit, and its list long enough and right.
@@ -24,8 +24,5 @@ pub fn measure_right(table: &[i32], count: usize, limit: u32, groups: &[i32]) ->
 pub fn measure_find(table: &[i32], count: usize, group: i32, member: i32) -> usize
     ensures { result ≡ place_or count (find group member count table.now) }
 {
-    let PairPlace::At(place) = place_of(table, count, group, member) else {
-        return count;
-    };
-    place
+    place_of(table, count, group, member).unwrap_or(count)
 }

@@ -1,5 +1,6 @@
 -- The entries of an enclosure give each name its word.
 -- Assumes nothing.
+use Rattle.std.specs.Prelude.{Some}
 use mathlib.Core.Path.{◌≡◌, refl, sym, ◌∙◌, ap, subst}
 use mathlib.Core.List.{List, [], ◌∷◌, map}
 use mathlib.Core.Option.{Option, none, some}
@@ -15,11 +16,10 @@ use Rattle.language.specs.Basics.{lookup}
 use Rattle.coordinates.specs.Enclosure.{Enclosure}
 use Rattle.resolved.specs.Resolved.{visible_words, name_word}
 use Rattle.check_symbols.specs.Entries.{found_in}
-use Rattle.check_symbols.specs.declared.Binding.TheVariants.{At}
 use Rattle.resolve_words.specs.Visible.{word_of, word_in, used_at, entry_of, Short, AllShort, Fits, Shown}
 
 module _ (n e : ℕ) (es : List ℕ) where
-  found_here : eqb n (e % 65536) ≡ true → found_in n (e ∷ es) ≡ At (e / 65536)
+  found_here : eqb n (e % 65536) ≡ true → found_in n (e ∷ es) ≡ Some (e / 65536)
   unfolding found_in
   found_here t = rw (t, found_in)
 

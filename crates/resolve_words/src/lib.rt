@@ -8,7 +8,7 @@ ghost use Rattle.resolve_words.specs.Growth.{Grown};
 ghost use Rattle.resolve_words.specs.Visible.{Short, word_in, used_at, Named};
 
 use check_fields::word;
-use check_symbols::{Binding, find};
+use check_symbols::find;
 
 // Past the array's end nothing is written.
 pub fn put(code: &mut [u32], at: usize, w: usize)
@@ -58,10 +58,7 @@ pub fn named(entries: &[usize], top: usize, name: usize) -> usize
     requires { Chained entries.now top }
     ensures { (result ≡ word_in name (drop top entries.now)) × (result < 2 ^ 48) }
 {
-    let Binding::At(w) = find(entries, top, name) else {
-        return 0;
-    };
-    w
+    find(entries, top, name).unwrap_or(0)
 }
 
 // The word of the name in the field at an offset.

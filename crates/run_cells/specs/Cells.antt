@@ -8,7 +8,7 @@ use Rattle.language.specs.Machine.{compute}
 use Rattle.language.specs.Text.{Operation, less}
 use Rattle.resolved.specs.Resolved.{direct, position_in, target_in}
 use Rattle.arrays.specs.Found.{held_by, cell_by}
-use Rattle.run_moves.specs.declared.Effect.{Effect}
+use Rattle.run_moves.specs.Effects.{Effect}
 use Rattle.run_moves.specs.declared.Move.{Move}
 use Rattle.run_moves.specs.declared.Move.TheVariants.{On, Jump}
 use Rattle.run_moves.specs.Effects.{effect_of, cells_of}

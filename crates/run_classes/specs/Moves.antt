@@ -6,8 +6,8 @@ use Rattle.std.proofs.Math.Path.{refl}
 use Rattle.std.proofs.Common.{ap, ◌∙◌, subst}
 use Rattle.language.specs.Machine.{compute}
 use Rattle.language.specs.Text.{Operation}
-use Rattle.run_moves.specs.declared.Effect.{Effect}
-use Rattle.run_moves.specs.declared.Effect.TheVariants.{Done as Stored, Stopped as Refused}
+use Rattle.run_moves.specs.Effects.{Effect}
+use Rattle.std.specs.Prelude.{Ok, Err}
 use Rattle.run_moves.specs.declared.Ask.{Ask}
 use Rattle.run_moves.specs.declared.Move.{Move}
 use Rattle.run_moves.specs.declared.Move.TheVariants.{On, Table as Asks, Jump, Enter, Stop}
@@ -51,8 +51,8 @@ module _ (F : Finding) (s : Scene) where
 
   computed : (e : Effect) (cells' : List ℤ) → cells' ≡ unhanded (arithmetic_move F s e) s.cells cells'
   unfolding arithmetic_move unhanded
-  computed Stored cells' = refl
-  computed (Refused c) cells' = refl
+  computed (Ok u) cells' = refl
+  computed (Err c) cells' = refl
 
   pub arithmetic-did :
       (f : Operation) {r : Move} {cells' : List ℤ} → (r ≡ (do_arithmetic F o f).move) × (cells' ≡ (do_arithmetic F o f).cells) →

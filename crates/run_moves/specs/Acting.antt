@@ -1,7 +1,7 @@
 -- What the statement at a place of the resolved script does to an engine's arrays, as a function: the move that it makes, and the words after
 -- it. `Finding` is how the engine finds a name from its word. A move that asks the membership table comes to what the table answers (`answer`).
 -- Engines are held to `acting` and `answer`, and the frame machine's step is what they come to (the laws stand in crate `steps`).
-use Rattle.std.specs.Prelude.{ℕ, zero, suc, ◌+◌, ◌*◌, ◌-◌, ◌/◌, ◌%◌, Bool, true, false, ◌&&◌, List, [], ◌∷◌, eqb, leb, ℤ, pos, length, get_or, set}
+use Rattle.std.specs.Prelude.{Ok, Err, ℕ, zero, suc, ◌+◌, ◌*◌, ◌-◌, ◌/◌, ◌%◌, Bool, true, false, ◌&&◌, List, [], ◌∷◌, eqb, leb, ℤ, pos, length, get_or, set}
 use Rattle.language.specs.Basics.{eq_z}
 use Rattle.language.specs.Text.{Operation, plus, minus, less}
 use Rattle.language.specs.Encoding.{signed}
@@ -10,13 +10,11 @@ use Rattle.language.specs.Machine.{compute}
 use Rattle.language.specs.declared.Stop.{Stop}
 use Rattle.language.specs.declared.Stop.TheVariants.{NoActivationLeft, ArgumentsDiffer}
 use Rattle.resolved.specs.Layout.{formals_in, operation_in, end_in}
-use Rattle.run_moves.specs.declared.Effect.{Effect as Done-or-not}
-use Rattle.run_moves.specs.declared.Effect.TheVariants.{Done, Stopped}
 use Rattle.run_moves.specs.declared.Move.{Move}
 use Rattle.run_moves.specs.declared.Ask.{Ask}
 use Rattle.run_moves.specs.declared.Ask.TheVariants.{Add, Remove, Query}
 use Rattle.run_moves.specs.declared.Move.TheVariants.{On, Table as Asks, Jump, Enter, Stop as Halt}
-use Rattle.run_moves.specs.Effects.{effect_of, cells_of, same_kinds}
+use Rattle.run_moves.specs.Effects.{Effect as Done-or-not, effect_of, cells_of, same_kinds}
 
 -- By a name's word: the cell of the declared name that it finally stands for, the activation that declares that name, what it leads to, and
 -- what a call hands on of it.
@@ -70,8 +68,8 @@ module _ (F : Finding) (s : Scene) where
   do_constant = rewrites s (On (s.at + 4)) (set s.cells (F.cell (field s 1)) (signed (field s 2)))
 
   unfoldable pub arithmetic_move : Done-or-not → Move
-  arithmetic_move Done = On (s.at + 5)
-  arithmetic_move (Stopped c) = Halt c
+  arithmetic_move (Ok u) = On (s.at + 5)
+  arithmetic_move (Err c) = Halt c
 
   unfoldable pub do_arithmetic : Operation → Happened
   do_arithmetic o =

@@ -1,15 +1,18 @@
 -- The effects of statements on the array of cells, which the code of `run_words` has.
-use Rattle.std.specs.Prelude.{ℕ, zero, suc, ◌+◌, ◌*◌, ◌≤◌, ◌<◌, Bool, true, false, ◌&&◌, List, ◌≡◌, eqb, ltb, ℤ, pos, length, get_or, set}
+use Rattle.std.specs.Prelude.{Result, Ok, Err, ℕ, zero, suc, ◌+◌, ◌*◌, ◌≤◌, ◌<◌, Bool, true, false, ◌&&◌, List, ◌≡◌, eqb, ltb, ℤ, pos, length, get_or, set}
 use Rattle.std.specs.Int.Signed.{mag}
+use Rattle.language.specs.declared.Stop.{Stop}
 use Rattle.language.specs.declared.Stop.TheVariants.{ResultTooLarge}
 use Rattle.resolved.specs.Resolved.{kind_in, target_in, direct}
 use Rattle.resolved.specs.Layout.{held_from}
-use Rattle.run_moves.specs.declared.Effect.{Effect}
-use Rattle.run_moves.specs.declared.Effect.TheVariants.{Done, Stopped}
+
+-- a statement is done, or there is a cause to stop
+abbrev pub Effect : Type 0
+Effect = Result (Unit {0}) Stop
 
 -- AR's value is stored where it fits signed 32 bits; else 21
 unfoldable pub effect_of : ℤ → Effect
-effect_of z = elim (ltb (mag z) 2147483648) [ true ↦ Done | false ↦ Stopped ResultTooLarge ]
+effect_of z = elim (ltb (mag z) 2147483648) [ true ↦ Ok tt | false ↦ Err ResultTooLarge ]
 
 unfoldable pub cells_of : List ℤ → ℕ → ℤ → List ℤ
 cells_of cells cell z = elim (ltb (mag z) 2147483648) [ true ↦ set cells cell z | false ↦ cells ]

@@ -3,13 +3,6 @@
 
 use language::Stop;
 
-// A statement is done, or there is a cause to stop.
-#[derive(Clone, Copy)]
-pub enum Effect {
-    Done,
-    Stopped(Stop),
-}
-
 // What the membership table is asked: AD, RM and QY.
 #[derive(Clone, Copy)]
 pub enum Ask {

@@ -1,6 +1,6 @@
 -- What the table's answer means in the code's enums: `Answered` says what an engine's function has of it, `add-answered` and so on that it has it by the
 -- function that it chose, `done-goes` that the engine then goes on, `stopped-halts` that the run stops.
-use Rattle.std.specs.Prelude.{ℕ, List, ℤ, pos, get_or, set}
+use Rattle.std.specs.Prelude.{ℕ, List, ℤ, pos, get_or, set, Ok, Err}
 use Rattle.std.proofs.Common.{arith, ap₂, ◌∙◌}
 use Rattle.std.proofs.Math.Path.{◌≡◌, refl, sym, ap, subst}
 use Rattle.language.specs.Table.{Table, Effect, leaves, halts, Asked, gives, refuses, queried}
@@ -11,10 +11,8 @@ use Rattle.run_moves.specs.declared.Ask.{Ask}
 use Rattle.run_moves.specs.declared.Ask.TheVariants.{Add, Remove, Query as Queried}
 use Rattle.run_moves.specs.Acting.{Answer, stored, answer}
 use Rattle.table_laws.specs.Listing.{Beside, KeepsList}
-use Rattle.table_pairs.specs.declared.Change.{Change}
-use Rattle.table_pairs.specs.declared.Change.TheVariants.{Done as Count, Stopped as Halted}
-use Rattle.table_pairs.specs.declared.Query.{Query}
-use Rattle.table_pairs.specs.declared.Query.TheVariants.{Value, Stopped as Refused}
+use Rattle.table_pairs.specs.Outcomes.{Change}
+use Rattle.table_pairs.specs.Outcomes.{Query}
 use Rattle.table_pairs.specs.Outcomes.{change_of, count_after, words_after, value_of}
 use Rattle.steps.specs.Standing.{Standing}
 use Rattle.steps.specs.Means.{GoesOn, EffectMeans, AnswerMeans}
@@ -25,13 +23,13 @@ use Rattle.run_state.specs.Limits.{goes_to}
 use Rattle.run_state.specs.Turns.{pairs_after}
 
 unfoldable pub turn_after : Registers → ℕ → Change → Turn
-turn_after here place (Count n) = Went (goes_to here here.live place here.end n)
-turn_after here place (Halted c) = Stopped c
+turn_after here place (Ok n) = Went (goes_to here here.live place here.end n)
+turn_after here place (Err c) = Stopped c
 
 pairs-after : (here : Registers) (place : ℕ) (c : Change) → count_after here.pairs c ≡ pairs_after here (turn_after here place c)
 unfolding turn_after count_after
-pairs-after here place (Count n) = refl
-pairs-after here place (Halted c) = refl
+pairs-after here place (Ok n) = refl
+pairs-after here place (Err c) = refl
 
 -- the list is kept by a step, once it is kept by the function that was asked
 pub answered-lists : {limit : ℕ} {table groups table' groups' : List ℤ} (here : Registers) (place : ℕ) (c : Change) {n : Turn} → n ≡ turn_after here place c
@@ -48,12 +46,12 @@ pub changed-by : (f : ℤ → ℤ → Effect) (before : List ℤ) {a b x y : ℤ
 changed-by f before p q c after = (c ∙ ap change_of (ap₂ f p q), after ∙ ap (words_after before) (ap₂ f p q))
 
 -- QY
-asked-value : (x : Asked) (z : ℤ) → value_of x ≡ Value z → x ≡ gives z
+asked-value : (x : Asked) (z : ℤ) → value_of x ≡ Ok z → x ≡ gives z
 unfolding value_of
 asked-value (gives y) z e = cc
 asked-value (refuses c) z e = let f : ◌≡◌ {A = ℕ} 0 1 = cc in absurd (omega arith)
 
-asked-refused : (x : Asked) (c : Stop) → value_of x ≡ Refused c → x ≡ refuses c
+asked-refused : (x : Asked) (c : Stop) → value_of x ≡ Err c → x ≡ refuses c
 unfolding value_of
 asked-refused (gives y) c e = let f : ◌≡◌ {A = ℕ} 0 1 = cc in absurd (omega arith)
 asked-refused (refuses d) c e = cc
@@ -69,13 +67,13 @@ module _ (cells : List ℤ) (t : Table) (group member target : ℕ) {a b : ℤ} 
   abbrev told : Answer
   told = answer 0 cells t group member target Queried
 
-  pub query-gives : {z : ℤ} → q ≡ Value z → (Count t.used ≡ change_of told.effect) × (set cells target z ≡ told.cells)
+  pub query-gives : {z : ℤ} → q ≡ Ok z → (Ok t.used ≡ change_of told.effect) × (set cells target z ≡ told.cells)
   unfolding answer stored change_of
   query-gives {z} f =
       let g : asked ≡ gives z = asked-value asked z (sym read ∙ f) in
       (sym (ap (λ (x : Asked). change_of (stored 0 cells t group member target x).effect) g), sym (ap (λ (x : Asked). (stored 0 cells t group member target x).cells) g))
 
-  pub query-refuses : {c : Stop} → q ≡ Refused c → (Halted c ≡ change_of told.effect) × (cells ≡ told.cells)
+  pub query-refuses : {c : Stop} → q ≡ Err c → (Err c ≡ change_of told.effect) × (cells ≡ told.cells)
   unfolding answer stored change_of
   query-refuses {c} f =
       let g : asked ≡ refuses c = asked-refused asked c (sym read ∙ f) in
@@ -127,35 +125,35 @@ module _ (limit : ℕ) (cells : List ℤ) (t : Table) (group member target : ℕ
   query-lists e groups past b = subst (λ (m : ℕ). Beside limit past (record { words = t.words; used = m }) groups) (query-pairs e) b
 
 module _ {code : List ℕ} {l : Limits} {cells : List ℤ} {blocks nexts links : List ℕ} {table : List ℤ} {pairs live at end : ℕ} (w : Standing code l cells blocks nexts links table pairs live at end) where
-  goes_by : (p n : ℕ) (cells' : List ℤ) (e : Effect) → EffectMeans w p cells' e → change_of e ≡ Count n → GoesOn w cells' (words_after table e) n p
+  goes_by : (p n : ℕ) (cells' : List ℤ) (e : Effect) → EffectMeans w p cells' e → change_of e ≡ Ok n → GoesOn w cells' (words_after table e) n p
   unfolding change_of words_after
   goes_by p n cells' (leaves t) m q = subst (λ k. GoesOn w cells' t.words k p) (count q) m
     where
-      count : Count t.used ≡ Count n → t.used ≡ n
+      count : Ok t.used ≡ Ok n → t.used ≡ n
       count e = cc
   goes_by p n cells' (halts c) m q = absurd (other q)
     where
-      other : Halted c ≡ Count n → ⊥
+      other : Err c ≡ Ok n → ⊥
       other e = let z : ◌≡◌ {A = ℕ} 0 1 = cc in absurd (omega arith)
 
-  halts_by : (p : ℕ) (c : Stop) (cells' : List ℤ) (e : Effect) → EffectMeans w p cells' e → change_of e ≡ Halted c
+  halts_by : (p : ℕ) (c : Stop) (cells' : List ℤ) (e : Effect) → EffectMeans w p cells' e → change_of e ≡ Err c
       → (frame_step l w.stack ≡ halted c) × (cells' ≡ cells) × (words_after table e ≡ table)
   unfolding change_of words_after
   halts_by p c cells' (leaves t) m q = absurd (other q)
     where
-      other : Count t.used ≡ Halted c → ⊥
+      other : Ok t.used ≡ Err c → ⊥
       other e = let z : ◌≡◌ {A = ℕ} 0 1 = cc in absurd (omega arith)
   halts_by p c cells' (halts d) m q = (m.0 ∙ ap halted (cause q), m.1, refl)
     where
-      cause : Halted d ≡ Halted c → d ≡ c
+      cause : Err d ≡ Err c → d ≡ c
       cause e = cc
 
   module _ (p : ℕ) (x : Answer) (m : AnswerMeans w p x) (r : Change) (cells' table' : List ℤ) (h : Answered x table r cells' table') where
-    pub done-goes : (n : ℕ) → r ≡ Count n → GoesOn w cells' table' n p
+    pub done-goes : (n : ℕ) → r ≡ Ok n → GoesOn w cells' table' n p
     done-goes n e =
         subst (λ (T : Type 0). T) (λ i. GoesOn w (sym h.1.0 i) (sym h.1.1 i) n p) (goes_by p n x.cells x.effect m (sym h.0 ∙ e))
 
-    pub stopped-halts : (c : Stop) → r ≡ Halted c → (frame_step l w.stack ≡ halted c) × (cells' ≡ cells) × (table' ≡ table)
+    pub stopped-halts : (c : Stop) → r ≡ Err c → (frame_step l w.stack ≡ halted c) × (cells' ≡ cells) × (table' ≡ table)
     stopped-halts c e =
         let k = halts_by p c x.cells x.effect m (sym h.0 ∙ e) in
         (k.0, h.1.0 ∙ k.1, h.1.1 ∙ k.2)

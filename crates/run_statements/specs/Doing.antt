@@ -13,8 +13,8 @@ use Rattle.language.specs.Text.{Operation, plus, minus, less}
 use Rattle.language.specs.Encoding.{signed}
 use Rattle.language.specs.Machine.{compute}
 use Rattle.language.specs.declared.Stop.TheVariants.{NoActivationLeft, ArgumentsDiffer}
-use Rattle.run_moves.specs.declared.Effect.{Effect}
-use Rattle.run_moves.specs.declared.Effect.TheVariants.{Done, Stopped}
+use Rattle.run_moves.specs.Effects.{Effect}
+use Rattle.std.specs.Prelude.{Ok, Err}
 use Rattle.run_moves.specs.declared.Ask.{Ask}
 use Rattle.run_moves.specs.declared.Ask.TheVariants.{Query}
 use Rattle.run_moves.specs.declared.Move.{Move}
@@ -42,8 +42,8 @@ module _ (F : Finding) (s : Scene) where
   -- AR
   after : (e : Effect) → move_after e (s.at + 5) ≡ arithmetic_move F s e
   unfolding move_after arithmetic_move
-  after Done = refl
-  after (Stopped c) = refl
+  after (Ok u) = refl
+  after (Err c) = refl
 
   abbrev pub result : Operation → ℕ → ℕ → ℤ
   result o left right = compute o (get_or s.cells left (pos 0)) (get_or s.cells right (pos 0))
@@ -63,7 +63,7 @@ module _ (F : Finding) (s : Scene) where
   less-small a b true e = rw (compute, e)
   less-small a b false e = rw (compute, e)
 
-  less_done : (a b : ℤ) → Done ≡ effect_of (compute less a b)
+  less_done : (a b : ℤ) → Ok tt ≡ effect_of (compute less a b)
   unfolding effect_of
   less_done a b = rw (effect_of, less-small a b (lt_z a b) refl)
 

@@ -1,8 +1,8 @@
 -- A scene as far as a statement looks at it, and the pieces from which the statements' functions are made.
 use Rattle.std.specs.Prelude.{ℕ, ◌+◌, ◌*◌, ◌≤◌, ◌<◌, true, false, List, ℤ, get_or, leb}
 use Rattle.language.specs.declared.Stop.TheVariants.{NoActivationLeft}
-use Rattle.run_moves.specs.declared.Effect.{Effect}
-use Rattle.run_moves.specs.declared.Effect.TheVariants.{Done, Stopped}
+use Rattle.run_moves.specs.Effects.{Effect}
+use Rattle.std.specs.Prelude.{Ok, Err}
 use Rattle.run_moves.specs.declared.Move.{Move}
 use Rattle.run_moves.specs.declared.Move.TheVariants.{On, Enter, Stop}
 use Rattle.run_moves.specs.Acting.{Finding, Scene, scene_by, Happened, field, moves, rewrites, no_room, arguments_from, set_all}
@@ -20,8 +20,8 @@ pub record FormalsBefore (code : List ℕ) (body : ℕ) : Type 0 where
 -- The pieces from which the statements' functions are made.
 
 unfoldable pub move_after : Effect → ℕ → Move
-move_after Done next = On next
-move_after (Stopped c) next = Stop c
+move_after (Ok u) next = On next
+move_after (Err c) next = Stop c
 
 unfoldable pub block_move : List ℕ → ℕ → ℕ → ℕ → Move
 block_move code activations live at =

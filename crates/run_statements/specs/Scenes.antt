@@ -11,8 +11,8 @@ use Rattle.std.proofs.Math.Dec.{leb}
 use Rattle.language.specs.Basics.{eq_z}
 use Rattle.language.specs.Text.{Operation}
 use Rattle.language.specs.Machine.{compute}
-use Rattle.run_moves.specs.declared.Effect.{Effect as Kept}
-use Rattle.run_moves.specs.declared.Effect.TheVariants.{Done as Stored, Stopped as Refused}
+use Rattle.run_moves.specs.Effects.{Effect as Kept}
+use Rattle.std.specs.Prelude.{Ok, Err}
 use Rattle.run_moves.specs.declared.Ask.{Ask}
 use Rattle.run_moves.specs.declared.Move.{Move}
 use Rattle.run_moves.specs.declared.Move.TheVariants.{Jump}
@@ -64,8 +64,8 @@ module _ (F : Finding) (s : Scene) where
 
   moved : (e : Kept) → arithmetic_move F o e ≡ arithmetic_move F s e
   unfolding arithmetic_move
-  moved Stored = refl
-  moved (Refused c) = refl
+  moved (Ok u) = refl
+  moved (Err c) = refl
 
   pub arithmetic-same : (f : Operation) (r : Move) (cells' : List ℤ) → r ≡ (do_arithmetic F o f).move → cells' ≡ (do_arithmetic F o f).cells
       → Done (do_arithmetic F s f) r cells'

@@ -7,7 +7,7 @@ ghost use Rattle.run_statements.specs.Pieces.{block_move, move_after};
 
 use language::Stop;
 use layout::end_of;
-use run_moves::{Effect, Move};
+use run_moves::Move;
 use run_words::code_at;
 
 mod membership;
@@ -27,13 +27,13 @@ pub fn constant(code: &[u32; 4096], cells: &mut [i32; 8224], target: usize, at: 
 
 // AR, with what the computation comes to.
 #[tactic(auto, unfolding(crate::specs::Pieces::move_after))]
-pub fn computed(effect: Effect, at: usize) -> Move
+pub fn computed(effect: Result<(), Stop>, at: usize) -> Move
     requires { at + 5 ≤ 4096 }
     ensures { result ≡ move_after effect (at + 5) }
 {
     match effect {
-        Effect::Done => Move::On(at + 5),
-        Effect::Stopped(cause) => Move::Stop(cause),
+        Ok(()) => Move::On(at + 5),
+        Err(cause) => Move::Stop(cause),
     }
 }
 

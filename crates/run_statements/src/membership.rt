@@ -7,8 +7,8 @@ ghost use Rattle.table_laws.specs.Listing.{HasList, KeepsList};
 ghost use Rattle.table_pairs.specs.Outcomes.{table_of, change_of, count_after, words_after};
 ghost use Rattle.run_statements.specs.Answers.{turn_after};
 
+use language::Stop;
 use run_state::{Registers, Turn};
-use table_pairs::{Change, Query};
 
 pub fn add(
     table: &mut [i32],
@@ -18,7 +18,7 @@ pub fn add(
     limit: u32,
     group: usize,
     member: usize,
-) -> Change
+) -> Result<usize, Stop>
     requires group_bound { (group < 8192) × (member < 8192) }
     requires has_list { HasList limit table.old pairs groups.old }
     ensures value { result ≡ change_of (answer limit cells.now (table_of table.old pairs) group member 0 Add).effect }
@@ -37,7 +37,7 @@ pub fn remove(
     pairs: usize,
     group: usize,
     member: usize,
-) -> Change
+) -> Result<usize, Stop>
     requires group_bound { (group < 8192) × (member < 8192) }
     requires by_index { (limit : ℕ) × HasList limit table.old pairs groups.old }
     ensures value { result ≡ change_of (answer 0 cells.now (table_of table.old pairs) group member 0 Remove).effect }
@@ -56,7 +56,7 @@ pub fn query(
     group: usize,
     member: usize,
     target: usize,
-) -> Change
+) -> Result<usize, Stop>
     requires { (group < 8192) × ((member < 8192) × (target < 8192)) }
     ensures value { result ≡ change_of (answer 0 cells.old (table_of table.now pairs) group member target Queried).effect }
     ensures cells_after { cells.new ≡ (answer 0 cells.old (table_of table.now pairs) group member target Queried).cells }
@@ -64,25 +64,25 @@ pub fn query(
     let of = cells[group];
     let who = cells[member];
     match table_pairs::query_pair(table, pairs, of, who) {
-        Query::Value(value) => {
+        Ok(value) => {
             run_words::store(cells, target, value);
-            Change::Done(pairs)
+            Ok(pairs)
         }
-        Query::Stopped(cause) => Change::Stopped(cause),
+        Err(cause) => Err(cause),
     }
 }
 
 // The step that asked comes to this.
 #[tactic(auto, unfolding(crate::specs::Answers::turn_after))]
-pub fn after(here: Registers, place: usize, change: Change) -> Turn
+pub fn after(here: Registers, place: usize, change: Result<usize, Stop>) -> Turn
     ensures { result ≡ turn_after here place change }
 {
     match change {
-        Change::Done(pairs) => Turn::Went(Registers {
+        Ok(pairs) => Turn::Went(Registers {
             at: place,
             pairs,
             ..here
         }),
-        Change::Stopped(cause) => Turn::Stopped(cause),
+        Err(cause) => Turn::Stopped(cause),
     }
 }

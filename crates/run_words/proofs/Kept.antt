@@ -14,15 +14,15 @@ use Rattle.language.specs.Text.{less}
 use Rattle.language.specs.Machine.{compute}
 use Rattle.language.specs.declared.Stop.TheVariants.{ResultTooLarge}
 use Rattle.resolved.specs.Resolved.{kind_in, formal_in, target_in, direct}
-use Rattle.run_moves.specs.declared.Effect.TheVariants.{Done, Stopped}
+use Rattle.std.specs.Prelude.{Ok, Err}
 use Rattle.run_moves.specs.Effects.{effect_of, cells_of, handed_word, same_kinds, Cleared}
 use Rattle.resolved.specs.Layout.{held_from}
 
-pub effect-fits : (z : ℤ) → ltb (mag z) 2147483648 ≡ true → Done ≡ effect_of z
+pub effect-fits : (z : ℤ) → ltb (mag z) 2147483648 ≡ true → Ok tt ≡ effect_of z
 unfolding effect_of
 effect-fits z e = rw (e, effect_of)
 
-pub effect-past : (z : ℤ) → ltb (mag z) 2147483648 ≡ false → Stopped ResultTooLarge ≡ effect_of z
+pub effect-past : (z : ℤ) → ltb (mag z) 2147483648 ≡ false → Err ResultTooLarge ≡ effect_of z
 unfolding effect_of
 effect-past z e = rw (e, effect_of)
 

@@ -12,7 +12,6 @@ ghost use Rattle.run_moves.specs.Effects.{effect_of, cells_of, same_kinds, hande
 use language::Stop;
 use layout::{formal_of, held_word, kind_of, target_of};
 use numbers::from_u32;
-use run_moves::Effect;
 
 // A word of the resolved script.
 pub fn code_at(code: &[u32; 4096], at: usize) -> usize
@@ -84,19 +83,19 @@ pub fn store(cells: &mut [i32; 8224], cell: usize, value: i32)
     cells[cell] = value;
 }
 
-fn keep(cells: &mut [i32; 8224], cell: usize, value: i64) -> Effect
+fn keep(cells: &mut [i32; 8224], cell: usize, value: i64) -> Result<(), Stop>
     requires { cell < 8192 }
     ensures { (result ≡ effect_of value) × (cells.new ≡ cells_of cells.old cell value) }
 {
     if fits_word(value) {
         cells[cell] = narrowed(value);
-        return Effect::Done;
+        return Ok(());
     }
-    Effect::Stopped(Stop::ResultTooLarge)
+    Err(Stop::ResultTooLarge)
 }
 
 // AR: the cells of target, left and right.
-pub fn add(cells: &mut [i32; 8224], target: usize, left: usize, right: usize) -> Effect
+pub fn add(cells: &mut [i32; 8224], target: usize, left: usize, right: usize) -> Result<(), Stop>
     requires { (target < 8192) × (left < 8192) × (right < 8192) }
     ensures value { result ≡ effect_of (compute plus (get_or cells.old left (pos 0)) (get_or cells.old right (pos 0))) }
     ensures cells_after { cells.new ≡ cells_of cells.old target (compute plus (get_or cells.old left (pos 0)) (get_or cells.old right (pos 0))) }
@@ -105,7 +104,12 @@ pub fn add(cells: &mut [i32; 8224], target: usize, left: usize, right: usize) ->
     keep(cells, target, value)
 }
 
-pub fn subtract(cells: &mut [i32; 8224], target: usize, left: usize, right: usize) -> Effect
+pub fn subtract(
+    cells: &mut [i32; 8224],
+    target: usize,
+    left: usize,
+    right: usize,
+) -> Result<(), Stop>
     requires { (target < 8192) × (left < 8192) × (right < 8192) }
     ensures value { result ≡ effect_of (compute minus (get_or cells.old left (pos 0)) (get_or cells.old right (pos 0))) }
     ensures cells_after { cells.new ≡ cells_of cells.old target (compute minus (get_or cells.old left (pos 0)) (get_or cells.old right (pos 0))) }

@@ -11,8 +11,8 @@ use Rattle.language.specs.Text.{Operation, plus, minus, less}
 use Rattle.laws.specs.Tests.{split}
 use Rattle.resolved.specs.Resolved.{target_in}
 use Rattle.resolved.specs.Layout.{activation_in}
-use Rattle.run_moves.specs.declared.Effect.{Effect}
-use Rattle.run_moves.specs.declared.Effect.TheVariants.{Done as Stored, Stopped as Refused}
+use Rattle.run_moves.specs.Effects.{Effect}
+use Rattle.std.specs.Prelude.{Ok, Err}
 use Rattle.run_moves.specs.declared.Ask.{Ask}
 use Rattle.run_moves.specs.declared.Ask.TheVariants.{Add, Remove}
 use Rattle.run_moves.specs.declared.Move.{Move}
@@ -58,8 +58,8 @@ module _ (F : Finding) (s : Scene) where
 
   effect-linked : (e : Effect) → Linked s.live (arithmetic_move F s e)
   unfolding arithmetic_move
-  effect-linked Stored = tt
-  effect-linked (Refused c) = tt
+  effect-linked (Ok u) = tt
+  effect-linked (Err c) = tt
 
   arithmetic-linked : (o : Operation) → Linked s.live (do_arithmetic F s o).move
   unfolding do_arithmetic rewrites

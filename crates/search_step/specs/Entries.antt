@@ -15,8 +15,8 @@ use Rattle.coordinates.specs.Chain.{enclosure_of}
 use Rattle.coordinates.specs.Enclosure.{Enclosure}
 use Rattle.f_search.specs.Search.{onward}
 use Rattle.resolved.specs.Resolved.{position_in}
-use Rattle.run_moves.specs.declared.Effect.{Effect as Kept}
-use Rattle.run_moves.specs.declared.Effect.TheVariants.{Done as Stored, Stopped as Refused}
+use Rattle.run_moves.specs.Effects.{Effect as Kept}
+use Rattle.std.specs.Prelude.{Ok, Err}
 use Rattle.run_moves.specs.declared.Move.{Move}
 use Rattle.run_moves.specs.declared.Move.TheVariants.{On, Table as Asks, Jump, Enter, Stop}
 use Rattle.run_moves.specs.Effects.{effect_of}
@@ -69,8 +69,8 @@ module _ (F : Finding) (s : Scene) where
   sum-stays o = go (effect_of _)
     where
       go : (e : Kept) → enters (arithmetic_move F s e) ≡ false
-      go Stored = refl
-      go (Refused c) = refl
+      go (Ok u) = refl
+      go (Err c) = refl
 
   goto-stays : enters (do_goto F s).move ≡ false
   unfolding do_goto moves enters

@@ -1,7 +1,7 @@
 -- A step of the search engine, by what the statement comes to (`Acts`). For each move: the engine goes on (`went_on`, `answered-on`), or is ready to jump or
 -- to enter (`jump-ready`, `enter-ready`), and stands after the step once it has (`jumped-on`, `entered_on`); a statement that stops leaves all as it was
 -- (`stopped-at`). At the end of a text: `leave-ready`, `left-on`. The list stays beside the table (`left-keeps`, `jumped-keeps`, `entered-keeps`).
-use Rattle.std.specs.Prelude.{ℕ, ◌+◌, ◌-◌, ◌≤◌, ◌<◌, List, refl, ℤ, get_or}
+use Rattle.std.specs.Prelude.{ℕ, ◌+◌, ◌-◌, ◌≤◌, ◌<◌, List, refl, ℤ, get_or, Ok, Err}
 use Rattle.std.proofs.Common.{arith, ◌∙◌}
 use Rattle.std.proofs.Math.Path.{◌≡◌, sym, ap, subst}
 use Rattle.std.proofs.Math.ListN.{length}
@@ -12,8 +12,7 @@ use Rattle.run_moves.specs.declared.Move.{Move}
 use Rattle.run_moves.specs.declared.Ask.{Ask}
 use Rattle.run_moves.specs.declared.Move.TheVariants.{On, Table as Asks, Jump as Leap, Enter as Opens, Stop as Halt}
 use Rattle.run_moves.specs.Acting.{Happened, answer, op_of}
-use Rattle.table_pairs.specs.declared.Change.{Change}
-use Rattle.table_pairs.specs.declared.Change.TheVariants.{Done as Count, Stopped as Halted}
+use Rattle.table_pairs.specs.Outcomes.{Change}
 use Rattle.steps.specs.Standing.{Standing}
 use Rattle.steps.specs.Means.{GoesOn, EntersAt, AnswerMeans, MoveMeans}
 use Rattle.steps.specs.Finding.{by_first, first_by_links, finds-by-links}
@@ -166,8 +165,8 @@ module _ {code numbers : List ℕ} {activations limit : ℕ} {cells : List ℤ} 
 
       by-change : (c : Change) {cells'' table'' : List ℤ} → Told c cells'' table'' → Turned w (turn_after here p c) (arrays_of cells'' passers' blocks nexts froms table'')
       unfolding turn_after
-      by-change (Count n) {cells''} {table''} k = goes same-passers (done-goes st p _ answered (Count n) cells'' table'' k n refl)
-      by-change (Halted c) {cells''} {table''} k = stops c (stopped-halts st p _ answered (Halted c) cells'' table'' k c refl) same-passers
+      by-change (Ok n) {cells''} {table''} k = goes same-passers (done-goes st p _ answered (Ok n) cells'' table'' k n refl)
+      by-change (Err c) {cells''} {table''} k = stops c (stopped-halts st p _ answered (Err c) cells'' table'' k c refl) same-passers
 
       pub answered-on : {c : Change} {cells'' table'' : List ℤ} → Told c cells'' table'' → {n : Turn} → n ≡ turn_after here p c → Turned w n (arrays_of cells'' passers' blocks nexts froms table'')
       answered-on {c} {cells''} {table''} k q = subst (λ (x : Turn). Turned w x (arrays_of cells'' passers' blocks nexts froms table'')) (sym q) (by-change c k)

@@ -10,12 +10,12 @@ ghost use Rattle.search_moves.specs.Running.{Running};
 ghost use Rattle.search_step.specs.Turning.{arrays_of, TurnsTo};
 
 use act::act;
+use language::Stop;
 use run_moves::Ask;
 use run_records::{jump, leave};
 use run_state::{Registers, Turn};
 use run_statements::{Moved, after};
 use search_moves::enter;
-use table_pairs::Change;
 
 mod act;
 mod arms;
@@ -31,7 +31,7 @@ fn asked(
     member: usize,
     target: usize,
     ask: Ask,
-) -> Change
+) -> Result<usize, Stop>
     requires group_bound { (group < 8192) × ((member < 8192) × (target < 8192)) }
     requires has_list { HasList limit table.old pairs groups.old }
     ensures value { result ≡ change_of (answer limit cells.old (table_of table.old pairs) group member target ask).effect }

@@ -20,7 +20,7 @@ use Rattle.frame_laws.specs.Continuing.{step-acts}
 use Rattle.coordinates.proofs.Visible.{action_names}
 use Rattle.coordinates.proofs.Next.{next-action}
 use Rattle.resolved.specs.Resolved.{resolved_action, resolved_stmt}
-use Rattle.run_moves.specs.declared.Effect.TheVariants.{Done, Stopped}
+use Rattle.std.specs.Prelude.{Ok, Err}
 use Rattle.run_moves.specs.declared.Move.TheVariants.{On, Stop}
 use Rattle.run_moves.specs.Effects.{effect_of, cells_of}
 use Rattle.run_moves.specs.Acting.{Finding, Scene, rewrites, operation_of, value_of, field, do_constant, arithmetic_move, do_arithmetic}
@@ -38,14 +38,14 @@ module _ (F : Finding) (s : Scene) (o : Operation) where
   fitting : ltb (mag result) 2147483648 ≡ true → do_arithmetic F s o ≡ rewrites s (On (s.at + 5)) (set s.cells (F.cell (field s 1)) result)
   unfolding do_arithmetic arithmetic_move effect_of cells_of
   fitting e =
-      let p : effect_of result ≡ Done = rw (e, effect_of) in
+      let p : effect_of result ≡ Ok tt = rw (e, effect_of) in
       let q : cells_of s.cells (F.cell (field s 1)) result ≡ set s.cells (F.cell (field s 1)) result = rw (e, cells_of) in
       λ i. rewrites s (arithmetic_move F s (p i)) (q i)
 
   not-fitting : ltb (mag result) 2147483648 ≡ false → do_arithmetic F s o ≡ rewrites s (Stop ResultTooLarge) s.cells
   unfolding do_arithmetic arithmetic_move effect_of cells_of
   not-fitting e =
-      let p : effect_of result ≡ Stopped ResultTooLarge = rw (e, effect_of) in
+      let p : effect_of result ≡ Err ResultTooLarge = rw (e, effect_of) in
       let q : cells_of s.cells (F.cell (field s 1)) result ≡ s.cells = rw (e, cells_of) in
       λ i. rewrites s (arithmetic_move F s (p i)) (q i)
 

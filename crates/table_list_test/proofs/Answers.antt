@@ -1,4 +1,5 @@
 -- From what the code found to the definitions.
+use Rattle.std.specs.Prelude.{Some, None}
 use Prim.Native.Nat.{ℕ, ◌+◌, ◌*◌, ◌/◌, ◌≤◌, ◌<◌}
 use mathlib.Core.Path.{◌≡◌, refl, sym, ◌∙◌, subst}
 use mathlib.Core.Bool.{Bool, true, false, ◌&&◌}
@@ -10,8 +11,7 @@ use lib.Seq.{get_or-take, length-take-le}
 use Rattle.language.specs.Table.{Table, numbers_right, groups_within}
 use Rattle.language.specs.Groups.{list_right}
 use Rattle.table_places.specs.Places.{read_places, places_in, Rising}
-use Rattle.table_places.specs.declared.Places.{Places}
-use Rattle.table_places.specs.declared.Places.TheVariants.{Used, Wrong}
+use Rattle.table_places.specs.Places.{Places}
 use Rattle.table_lists.specs.Reads.{Reads, used-reads, reads-words, reads-rising}
 use Rattle.table_lists.specs.Agreeing.{agreed-true, wrong-false, untallied-false}
 use Rattle.table_lefts.specs.Lefts.{TalliedIs}
@@ -28,10 +28,10 @@ module _ (limit : ℕ) (ws : List ℤ) (count : ℕ) (fits : 2 * count ≤ lengt
   abbrev agree : Bool
   agree = groups_within limit t count ws && list_right t lent
 
-  pub none-agree : {r : Places} → r ≡ read_places limit 0 count 0 l → r ≡ Wrong → false ≡ agree
+  pub none-agree : {r : Places} → r ≡ read_places limit 0 count 0 l → r ≡ None → false ≡ agree
   none-agree e w = sym (wrong-false limit ws count fits numbers lent long (sym e ∙ w))
 
-  module _ {r : Places} (read : r ≡ read_places limit 0 count 0 l) {used : ℕ} (is : r ≡ Used used) where
+  module _ {r : Places} (read : r ≡ read_places limit 0 count 0 l) {used : ℕ} (is : r ≡ Some used) where
     reads : Reads limit 0 count used l
     reads =
         let h = used-reads limit 0 count 0 used l (sym read ∙ is) in

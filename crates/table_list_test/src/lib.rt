@@ -9,7 +9,7 @@ ghost use Rattle.table_places.specs.Places.{places_in, Rising};
 ghost use Rattle.table_lefts.specs.Lefts.{TalliedIs};
 
 use table_lefts::exact_in;
-use table_places::{Places, read_places};
+use table_places::read_places;
 use table_windows::exact_windows;
 
 // Four slots for each place that there may be. Slots are cleared first, so that a short list takes few.
@@ -80,10 +80,10 @@ pub fn list_agrees(table: &[i32], count: usize, limit: u32, groups: &[i32]) -> b
     let words = 2 * (table.len() / 2);
     let read = read_places(&groups[..words], limit, count);
     match read {
-        Places::Used(used) => {
+        Some(used) => {
             let end = 2 * used;
             exact(table, count, &groups[..end])
         }
-        Places::Wrong => false,
+        None => false,
     }
 }

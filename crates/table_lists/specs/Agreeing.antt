@@ -1,5 +1,5 @@
 -- A list agrees with a table and its limit exactly where it reads as places and zeros and each number is a full count.
-use Rattle.std.specs.Prelude.{ℕ, zero, suc, ◌+◌, ◌*◌, ◌-◌, ◌/◌, ◌≤◌, ◌<◌, ◌≡◌, refl, Bool, true, false, ◌&&◌, List, [], ◌∷◌, ◌⊎◌, ℤ, pos, nat_abs, take, replicate}
+use Rattle.std.specs.Prelude.{ℕ, zero, suc, ◌+◌, ◌*◌, ◌-◌, ◌/◌, ◌≤◌, ◌<◌, ◌≡◌, refl, Bool, true, false, ◌&&◌, List, [], ◌∷◌, ◌⊎◌, ℤ, pos, nat_abs, take, replicate, None}
 use Rattle.std.proofs.Math.Path.{sym, ap, subst}
 use Rattle.std.proofs.Common.{◌∙◌, ap₂, inl, inr}
 use native.Mathlib.Omega.{arith}
@@ -15,7 +15,6 @@ use Rattle.table_laws.specs.Places.{Tallies, by_order}
 use Rattle.table_laws.specs.Rightness.{numbers-means, within-means, within-hold, within_all}
 use Rattle.table_laws.specs.RightLists.{placed, Lists, list-means, list-holds}
 use Rattle.table_places.specs.Places.{all_zero, read_places, group_in, number_in}
-use Rattle.table_places.specs.declared.Places.TheVariants.{Wrong}
 use Rattle.table_places.proofs.Naturals.{from_one, natural-is}
 use Rattle.table_totals.specs.Totals.{total-alike}
 use Rattle.table_totals.specs.Placed.{HasPlace, members_of, Placed, Tallied, member-itself, placed_total, tallied-placed}
@@ -269,7 +268,7 @@ module _ (limit : ℕ) (ws : List ℤ) (count : ℕ) (fits : 2 * count ≤ lengt
             tallied = subst (λ (m : List ℤ). Tallied ws count m (half ps)) (sym same) counted;
           }
 
-    pub wrong-false : read_places limit 0 count 0 l ≡ Wrong → agree ≡ false
+    pub wrong-false : read_places limit 0 count 0 l ≡ None → agree ≡ false
     wrong-false w = split agree (λ e. let a = true-agreed e in reads-right limit 0 count a.number l a.reads w) (λ e. e)
 
     pub untallied-false : (n : ℕ) → Reads limit 0 count n l → (Tallied ws count l n → ⊥) → agree ≡ false

@@ -1,12 +1,11 @@
 -- What it says of a list that its reading gives n places.
-use Rattle.std.specs.Prelude.{ℕ, zero, suc, ◌+◌, ◌*◌, ◌-◌, ◌≤◌, ◌<◌, ◌≡◌, true, false, List, [], ◌∷◌, ℤ, pos, nat_abs, length, drop}
+use Rattle.std.specs.Prelude.{ℕ, zero, suc, ◌+◌, ◌*◌, ◌-◌, ◌≤◌, ◌<◌, ◌≡◌, true, false, List, [], ◌∷◌, ℤ, pos, nat_abs, length, drop, Some, None}
 use Rattle.std.proofs.Common.{sym, ◌∙◌, ap, arith}
 use Rattle.language.specs.Basics.{eq_z}
 use Rattle.laws.specs.Lists.{twice-suc}
 use Rattle.laws.specs.Tests.{both, split, ne-eq_z}
 use Rattle.laws.specs.Tables.{group_at, member_at, group_at-suc, member_at-suc}
 use Rattle.table_places.specs.Places.{Natural, all_zero, place_fits, ended, read_places, group_in, number_in, Rising}
-use Rattle.table_places.specs.declared.Places.TheVariants.{Used, Wrong}
 use Rattle.table_places.proofs.Reading.{Fitting, fitting, fits-place, at_zero, at-wrong, at_place, at-short, ended-right, ended-used}
 use Rattle.table_totals.specs.Totals.{total, total-none, total-alike, total_first}
 
@@ -24,18 +23,18 @@ pub record Read (limit last left k m : ℕ) (l : List ℤ) : Type 0 where
   pub is : m ≡ k + number
   pub reads : Reads limit last left number l
 
-used-same : {m n : ℕ} → Used m ≡ Used n → m ≡ n
+used-same : {m n : ℕ} → Some m ≡ Some n → m ≡ n
 used-same e = cc
 
-wrong-used {ℓ} : {X : Type ℓ} {m : ℕ} → Wrong ≡ Used m → X
+wrong-used {ℓ} : {X : Type ℓ} {m : ℕ} → None ≡ Some m → X
 wrong-used e = let z : ◌≡◌ {A = ℕ} 0 1 = cc in absurd (omega arith)
 
-none_read : (limit last left k m : ℕ) (l : List ℤ) → ended left k l ≡ Used m → Read limit last left k m l
+none_read : (limit last left k m : ℕ) (l : List ℤ) → ended left k l ≡ Some m → Read limit last left k m l
 none_read limit last left k m l e =
     let (zeros, same) = ended-used left k m l e in
     record { number = 0; is = omega arith; reads = zeros }
 
-pub used-reads : (limit last left k m : ℕ) (l : List ℤ) → read_places limit last left k l ≡ Used m → Read limit last left k m l
+pub used-reads : (limit last left k m : ℕ) (l : List ℤ) → read_places limit last left k l ≡ Some m → Read limit last left k m l
 used-reads limit last left k m [] e = none_read limit last left k m [] (sym (at-short limit last left k [] (omega arith)) ∙ e)
 used-reads limit last left k m (a ∷ []) e = none_read limit last left k m (a ∷ []) (sym (at-short limit last left k (a ∷ []) (omega arith)) ∙ e)
 used-reads limit last left k m (a ∷ b ∷ l) e =
@@ -47,23 +46,23 @@ used-reads limit last left k m (a ∷ b ∷ l) e =
     record { number = suc r.number; is = omega (arith, r.is); reads = (fitting limit last left a b f, r.reads) })
     (λ f. wrong-used (sym (at-wrong limit last left k a b l z f) ∙ e)))
 
-none-used : (limit last left k : ℕ) (l : List ℤ) → left ≡ 0 → all_zero l ≡ true → read_places limit last left k l ≡ Used k
+none-used : (limit last left k : ℕ) (l : List ℤ) → left ≡ 0 → all_zero l ≡ true → read_places limit last left k l ≡ Some k
 unfolding all_zero
 none-used limit last left k [] z e = at-short limit last left k [] (omega arith) ∙ ended-right left k [] z e
 none-used limit last left k (a ∷ []) z e = at-short limit last left k (a ∷ []) (omega arith) ∙ ended-right left k (a ∷ []) z e
 none-used limit last left k (a ∷ b ∷ l) z e =
     at_zero limit last left k a b l (both (eq_z a (pos 0)) (all_zero (b ∷ l)) e).0 ∙ ended-right left k (a ∷ b ∷ l) z e
 
-pub reads-used : (limit last left k n : ℕ) (l : List ℤ) → Reads limit last left n l → read_places limit last left k l ≡ Used (k + n)
+pub reads-used : (limit last left k n : ℕ) (l : List ℤ) → Reads limit last left n l → read_places limit last left k l ≡ Some (k + n)
 reads-used limit last left k zero l h =
     let e : k ≡ k + 0 = omega arith in
-    none-used limit last left k l h.0 h.1 ∙ ap Used e
+    none-used limit last left k l h.0 h.1 ∙ ap Some e
 reads-used limit last left k (suc n) [] h = absurd h
 reads-used limit last left k (suc n) (a ∷ []) h = absurd h
 reads-used limit last left k (suc n) (a ∷ b ∷ l) h =
     let other : eq_z a (pos 0) ≡ false = ne-eq_z a (pos 0) (λ z. omega (arith, h.0.rises, ap nat_abs z)) in
     let e : suc k + n ≡ k + suc n = omega arith in
-    at_place limit last left k a b l other (fits-place limit last left a b h.0) ∙ reads-used limit (nat_abs a) (left - nat_abs b) (suc k) n l h.1 ∙ ap Used e
+    at_place limit last left k a b l other (fits-place limit last left a b h.0) ∙ reads-used limit (nat_abs a) (left - nat_abs b) (suc k) n l h.1 ∙ ap Some e
 
 -- a list reads in one way
 pub reads_same : (limit last left n m : ℕ) (l : List ℤ) → Reads limit last left n l → Reads limit last left m l → n ≡ m
@@ -71,7 +70,7 @@ reads_same limit last left n m l h k =
     let e : 0 + n ≡ 0 + m = used-same (sym (reads-used limit last left 0 n l h) ∙ reads-used limit last left 0 m l k) in
     omega arith
 
-pub reads-right {ℓ} : {X : Type ℓ} (limit last left n : ℕ) (l : List ℤ) → Reads limit last left n l → read_places limit last left 0 l ≡ Wrong → X
+pub reads-right {ℓ} : {X : Type ℓ} (limit last left n : ℕ) (l : List ℤ) → Reads limit last left n l → read_places limit last left 0 l ≡ None → X
 reads-right limit last left n l h e = wrong-used (sym e ∙ reads-used limit last left 0 n l h)
 
 -- ---- what is so of each place

@@ -14,7 +14,7 @@ use mir.Facts.{to_z-of_z}
 use Rattle.language.specs.Table.{Table, find, is_some, holds, size, at_least_one, full, add, remove, take_out, fewer, leaves, halts, gives, refuses, added, removed, queried}
 use Rattle.language.specs.declared.Stop.TheVariants.{NumberBelowOne, GroupFull, TableFull}
 use Rattle.table_search.specs.Places.{placed}
-use Rattle.table_search.specs.declared.PairPlace.{PairPlace}
+use Rattle.table_search.specs.Places.{PairPlace}
 use Rattle.table_pairs.specs.Outcomes.{table_of}
 
 -- the words in locals are read back from their bits

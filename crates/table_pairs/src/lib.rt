@@ -10,21 +10,7 @@ ghost use Rattle.table_pairs.specs.Outcomes.{table_of, change_of, count_after, v
 use language::Stop;
 use table_groups::{find_group, lower, raise};
 use table_moves::take_out;
-use table_search::{PairPlace, numbers_fit, place_of, present};
-
-// What AD or RM comes to: the count of pairs after it, or the cause to stop.
-#[derive(Clone, Copy)]
-pub enum Change {
-    Done(usize),
-    Stopped(Stop),
-}
-
-// What QY comes to: the value that it stores, or the cause to stop.
-#[derive(Clone, Copy)]
-pub enum Query {
-    Value(i32),
-    Stopped(Stop),
-}
+use table_search::{numbers_fit, place_of, present};
 
 // The word at `i` is written, if the table has one there.
 fn write_word(table: &mut [i32], i: usize, word: i32)
@@ -57,7 +43,7 @@ fn held(table: &[i32], count: usize, group: i32, member: i32, members: u32) -> b
     present(table, count, group, member)
 }
 
-// AD. The group is judged by the list and before the table, and both before anything is written.
+// AD: the count of pairs after it, or the cause to stop. The group is judged by the list and before the table, and both before anything is written.
 pub fn add_pair(
     table: &mut [i32],
     groups: &mut [i32],
@@ -65,7 +51,7 @@ pub fn add_pair(
     limit: u32,
     group: i32,
     member: i32,
-) -> Change
+) -> Result<usize, Stop>
     requires { HasList limit table.old count groups.old }
     ensures value { result ≡ change_of (added limit group member (table_of table.old count)) }
     ensures table_after { table.new ≡ words_after table.old (added limit group member (table_of table.old count)) }
@@ -73,32 +59,32 @@ pub fn add_pair(
     ensures value_2 { result ≡ change_of (added_by_list limit group member (table_of table.old count) groups.old) }
 {
     if !numbers_fit(group, member) {
-        return Change::Stopped(Stop::NumberBelowOne);
+        return Err(Stop::NumberBelowOne);
     }
     let found = find_group(groups, count, group);
     let number = found.number;
     if held(table, count, group, member, number) {
-        return Change::Done(count);
+        return Ok(count);
     }
     if limit <= number {
-        return Change::Stopped(Stop::GroupFull);
+        return Err(Stop::GroupFull);
     }
     if table.len() / 2 <= count {
-        return Change::Stopped(Stop::TableFull);
+        return Err(Stop::TableFull);
     }
     append(table, count, group, member);
     raise(groups, count + 1, found, group);
-    Change::Done(count + 1)
+    Ok(count + 1)
 }
 
-// RM. An absent pair changes nothing, and is not looked for where its group is not in the list.
+// RM: the same. An absent pair changes nothing, and is not looked for where its group is not in the list.
 pub fn remove_pair(
     table: &mut [i32],
     groups: &mut [i32],
     count: usize,
     group: i32,
     member: i32,
-) -> Change
+) -> Result<usize, Stop>
     requires { (limit : ℕ) × HasList limit table.old count groups.old }
     ensures value { result ≡ change_of (removed group member (table_of table.old count)) }
     ensures table_after { table.new ≡ words_after table.old (removed group member (table_of table.old count)) }
@@ -106,34 +92,34 @@ pub fn remove_pair(
     ensures value_2 { result ≡ change_of (removed_by_list group member (table_of table.old count) groups.old) }
 {
     if !numbers_fit(group, member) {
-        return Change::Stopped(Stop::NumberBelowOne);
+        return Err(Stop::NumberBelowOne);
     }
     let found = find_group(groups, count, group);
     let number = found.number;
     if number == 0 {
-        return Change::Done(count);
+        return Ok(count);
     }
     let there = place_of(table, count, group, member);
     match there {
-        PairPlace::Absent => Change::Done(count),
-        PairPlace::At(place) => {
+        None => Ok(count),
+        Some(place) => {
             // No other place than `place`: so that the compiler does not carry what `take_out` needs of it through the search.
             take_out(table, count, place % 9223372036854775808);
             lower(groups, count, found);
-            Change::Done(count - 1)
+            Ok(count - 1)
         }
     }
 }
 
-// QY. The value is 1 where the pair is present, else 0.
-pub fn query_pair(table: &[i32], count: usize, group: i32, member: i32) -> Query
+// QY: the value that it stores, or the cause to stop. The value is 1 where the pair is present, else 0.
+pub fn query_pair(table: &[i32], count: usize, group: i32, member: i32) -> Result<i32, Stop>
     ensures { result ≡ value_of (queried group member (table_of table.now count)) }
 {
     if !numbers_fit(group, member) {
-        return Query::Stopped(Stop::NumberBelowOne);
+        return Err(Stop::NumberBelowOne);
     }
     if present(table, count, group, member) {
-        return Query::Value(1);
+        return Ok(1);
     }
-    Query::Value(0)
+    Ok(0)
 }

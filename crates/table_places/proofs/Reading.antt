@@ -1,4 +1,5 @@
 -- Reading a list, one place more.
+use Rattle.std.specs.Prelude.{Some, None}
 use Prim.Native.Nat.{ℕ, suc, ◌+◌, ◌*◌, ◌-◌, ◌≤◌, ◌<◌}
 use mathlib.Core.Path.{◌≡◌, refl, ◌∙◌, ap}
 use mathlib.Core.Bool.{Bool, true, false, not, ◌&&◌, and-false}
@@ -16,8 +17,7 @@ use Rattle.language.specs.Basics.{eq_z}
 use Rattle.language.specs.Table.{at_least_one}
 use Rattle.table_places.specs.Places.{Natural, all_zero, stands_at, place_fits, ended, read_places}
 use Rattle.table_places.proofs.Naturals.{from_one, natural-one}
-use Rattle.table_places.specs.declared.Places.{Places}
-use Rattle.table_places.specs.declared.Places.TheVariants.{Used, Wrong}
+use Rattle.table_places.specs.Places.{Places}
 
 -- the two words of place k, and those after it
 pub drop-place : (k : ℕ) (ws : List ℤ) → 2 * k + 1 < length ws → drop (2 * k) ws ≡ group_at k ws ∷ member_at k ws ∷ drop (2 * suc k) ws
@@ -34,7 +34,7 @@ stands-true k ws e =
 -- ---- one step
 
 abbrev chosen : Bool → Bool → Places → Places → Places
-chosen none fits here on = elim none [ true ↦ here | false ↦ elim fits [ true ↦ on | false ↦ Wrong ] ]
+chosen none fits here on = elim none [ true ↦ here | false ↦ elim fits [ true ↦ on | false ↦ None ] ]
 
 module _ (limit last left k : ℕ) where
   at_next :
@@ -47,7 +47,7 @@ module _ (limit last left k : ℕ) where
   pub at_zero : (a n : ℤ) (ws : List ℤ) → eq_z a (pos 0) ≡ true → read_places limit last left k (a ∷ n ∷ ws) ≡ ended left k (a ∷ n ∷ ws)
   at_zero a n ws e = at_next a n ws ∙ rw e
 
-  pub at-wrong : (a n : ℤ) (ws : List ℤ) → eq_z a (pos 0) ≡ false → place_fits limit last left a n ≡ false → read_places limit last left k (a ∷ n ∷ ws) ≡ Wrong
+  pub at-wrong : (a n : ℤ) (ws : List ℤ) → eq_z a (pos 0) ≡ false → place_fits limit last left a n ≡ false → read_places limit last left k (a ∷ n ∷ ws) ≡ None
   at-wrong a n ws e f = at_next a n ws ∙ rw (e, f)
 
   pub at_place :
@@ -74,7 +74,7 @@ module _ (limit last left k : ℕ) where
         go false q = at-short (drop (2 * k) ws) (rw (length-drop (2 * k) ws) (omega (arith, ltb-false (2 * k + 1) (length ws) q)))
 
     module _ (there : stands_at k ws ≡ true) where
-      pub read-wrong : place_fits limit last left (group_at k ws) (member_at k ws) ≡ false → read_places limit last left k (drop (2 * k) ws) ≡ Wrong
+      pub read-wrong : place_fits limit last left (group_at k ws) (member_at k ws) ≡ false → read_places limit last left k (drop (2 * k) ws) ≡ None
       read-wrong f =
           let (l, n) = stands-true k ws there in
           rw (drop-place k ws l) (at-wrong (group_at k ws) (member_at k ws) (drop (2 * suc k) ws) n f)
@@ -131,22 +131,22 @@ fits-place limit last left a n f =
 
 -- ---- the end
 
-pub ended-short : (left k : ℕ) (ws : List ℤ) → (left ≡ 0 → ⊥) → ended left k ws ≡ Wrong
+pub ended-short : (left k : ℕ) (ws : List ℤ) → (left ≡ 0 → ⊥) → ended left k ws ≡ None
 unfolding ended
 ended-short left k ws h = rw (ne_eqb left 0 h, ended)
 
-pub ended-other : (left k : ℕ) (ws : List ℤ) → all_zero ws ≡ false → ended left k ws ≡ Wrong
+pub ended-other : (left k : ℕ) (ws : List ℤ) → all_zero ws ≡ false → ended left k ws ≡ None
 unfolding ended
 ended-other left k ws e = rw (e, and-false (eqb left 0), ended)
 
-pub ended-right : (left k : ℕ) (ws : List ℤ) → left ≡ 0 → all_zero ws ≡ true → ended left k ws ≡ Used k
+pub ended-right : (left k : ℕ) (ws : List ℤ) → left ≡ 0 → all_zero ws ≡ true → ended left k ws ≡ Some k
 unfolding ended
 ended-right left k ws z e = rw (eq-eqb left 0 z, e, ended)
 
-pub ended-used : (left k m : ℕ) (ws : List ℤ) → ended left k ws ≡ Used m → ((left ≡ 0) × (all_zero ws ≡ true)) × (m ≡ k)
+pub ended-used : (left k m : ℕ) (ws : List ℤ) → ended left k ws ≡ Some m → ((left ≡ 0) × (all_zero ws ≡ true)) × (m ≡ k)
 unfolding ended
 ended-used left k m ws e = go (eqb left 0 && all_zero ws) refl e
   where
-    go : (t : Bool) → (eqb left 0 && all_zero ws) ≡ t → elim t as (λ x. Places) [ true ↦ Used k | false ↦ Wrong ] ≡ Used m → ((left ≡ 0) × (all_zero ws ≡ true)) × (m ≡ k)
+    go : (t : Bool) → (eqb left 0 && all_zero ws) ≡ t → elim t as (λ x. Places) [ true ↦ Some k | false ↦ None ] ≡ Some m → ((left ≡ 0) × (all_zero ws ≡ true)) × (m ≡ k)
     go true q r = let b = both (eqb left 0) (all_zero ws) q in ((eqb-true left 0 b.0, b.1), cc)
     go false q r = let z : ◌≡◌ {A = ℕ} 0 1 = cc in absurd (omega arith)

@@ -1,11 +1,9 @@
 -- What reading a list of groups comes to, with no look at the table.
-use Rattle.std.specs.Prelude.{ℕ, suc, ◌+◌, ◌*◌, ◌-◌, ◌/◌, ◌≤◌, ◌<◌, ◌≡◌, Bool, true, false, not, ◌&&◌, List, [], ◌∷◌, eqb, leb, ltb, ℤ, pos, nat_abs, length}
+use Rattle.std.specs.Prelude.{ℕ, suc, ◌+◌, ◌*◌, ◌-◌, ◌/◌, ◌≤◌, ◌<◌, ◌≡◌, Bool, true, false, not, ◌&&◌, List, [], ◌∷◌, eqb, leb, ltb, ℤ, pos, nat_abs, length, Option, Some, None}
 use Rattle.std.specs.Int.Signed.{non_neg}
 use Rattle.language.specs.Basics.{eq_z}
 use Rattle.language.specs.Table.{at_least_one}
 use Rattle.laws.specs.Tables.{group_at, member_at}
-use Rattle.table_places.specs.declared.Places.{Places}
-use Rattle.table_places.specs.declared.Places.TheVariants.{Used, Wrong}
 
 abbrev pub Natural : ℤ → Type 0
 Natural z = non_neg z ≡ true
@@ -40,8 +38,12 @@ unfoldable pub place_fits : ℕ → ℕ → ℕ → ℤ → ℤ → Bool
 place_fits limit last left a n = (at_least_one a && at_least_one n) && (ltb last (nat_abs a) && (leb (nat_abs n) limit && leb (nat_abs n) left))
 
 -- k places were read, and no further one stands there
+-- how many places are in use, or that the list is wrong whatever the table holds
+abbrev pub Places : Type 0
+Places = Option ℕ
+
 unfoldable pub ended : ℕ → ℕ → List ℤ → Places
-ended left k ws = elim (eqb left 0 && all_zero ws) [ true ↦ Used k | false ↦ Wrong ]
+ended left k ws = elim (eqb left 0 && all_zero ws) [ true ↦ Some k | false ↦ None ]
 
 unfoldable pub read_places : ℕ → ℕ → ℕ → ℕ → List ℤ → Places
 read_places limit last left k [] = ended left k []
@@ -51,6 +53,6 @@ read_places limit last left k (a ∷ n ∷ ws) =
       | true ↦ ended left k (a ∷ n ∷ ws)
       | false ↦ elim (place_fits limit last left a n) [
         | true ↦ read_places limit (nat_abs a) (left - nat_abs n) (suc k) ws
-        | false ↦ Wrong
+        | false ↦ None
       ]
     ]

@@ -7,13 +7,6 @@ ghost use Rattle.table_places.specs.Places.{Natural, stands_at, place_fits, all_
 
 use table_search::{group_at, member_at, numbers_fit, same_number};
 
-// How many places are in use, or that the list is wrong whatever the table holds.
-#[derive(Clone, Copy)]
-pub enum Places {
-    Used(usize),
-    Wrong,
-}
-
 // A word that is not negative.
 pub fn natural_at(words: &[i32], at: usize) -> u64
     requires at_in_bounds { at < length words.now }
@@ -97,21 +90,22 @@ fn place_fits(group: i32, number: i32, last: u64, limit: u32, left: usize) -> bo
 }
 
 // The end of the places: all pairs are counted, and zeros follow.
-fn ends(list: &[i32], k: usize, left: usize) -> Places
+fn ends(list: &[i32], k: usize, left: usize) -> Option<usize>
     requires { 2 * k ≤ length list.now }
     ensures { result ≡ ended left k (drop (2 * k) list.now) }
 {
     if left != 0 {
-        return Places::Wrong;
+        return None;
     }
     if !zero_from(list, 2 * k) {
-        return Places::Wrong;
+        return None;
     }
-    Places::Used(k)
+    Some(k)
 }
 
-// Groups rise, each number is from 1 to the limit, and all numbers together are the count.
-pub fn read_places(list: &[i32], limit: u32, count: usize) -> Places
+// How many places are in use, or nothing where the list is wrong whatever the table holds: groups rise, each number is from 1 to the limit, and all numbers
+// together are the count.
+pub fn read_places(list: &[i32], limit: u32, count: usize) -> Option<usize>
     ensures { result ≡ read_places limit 0 count 0 list.now }
 {
     let mut k = 0;
@@ -119,7 +113,7 @@ pub fn read_places(list: &[i32], limit: u32, count: usize) -> Places
     let mut left = count;
     while stands(list, k) {
         if !place_fits(group_at(list, k), member_at(list, k), last, limit, left) {
-            return Places::Wrong;
+            return None;
         }
         last = natural_at(list, 2 * k);
         left -= natural_at(list, 2 * k + 1) as usize;

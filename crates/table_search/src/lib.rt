@@ -9,13 +9,6 @@ ghost use Rattle.language.specs.Table.{find, is_some, at_least_one};
 ghost use Rattle.laws.specs.Tables.{group_at, member_at};
 ghost use Rattle.table_search.specs.Places.{placed, among_pairs};
 
-// Where a pair stands, counted in pairs from 0.
-#[derive(Clone, Copy)]
-pub enum PairPlace {
-    At(usize),
-    Absent,
-}
-
 // How many pairs are read: `count`, or as many as `len` words hold.
 fn pairs_in(len: usize, count: usize) -> usize
     ensures { result ≡ min count (len / 2) }
@@ -102,19 +95,19 @@ fn without(table: &[i32], n: usize, group: i32, member: i32) -> usize
     i
 }
 
-// The first place among the first `count` pairs.
-pub fn place_of(table: &[i32], count: usize, group: i32, member: i32) -> PairPlace
+// The first place of a pair among the first `count`, counted in pairs from 0, if it has one.
+pub fn place_of(table: &[i32], count: usize, group: i32, member: i32) -> Option<usize>
     ensures { result ≡ placed (find group member count table.now) }
 {
     let n = pairs_in(table.len(), count);
     let mut i = without(table, n, group, member);
     while i < n {
         if pair_is(table, i, group, member) {
-            return PairPlace::At(i);
+            return Some(i);
         }
         i += 1;
     }
-    PairPlace::Absent
+    None
 }
 
 // Whether the pair is among the first `count`. Those added last, which stand at the end, are looked at first.
@@ -128,9 +121,5 @@ pub fn present(table: &[i32], count: usize, group: i32, member: i32) -> bool
             return true;
         }
     }
-    let found = place_of(table, i, group, member);
-    match found {
-        PairPlace::At(_) => true,
-        PairPlace::Absent => false,
-    }
+    place_of(table, i, group, member).is_some()
 }

@@ -1,16 +1,16 @@
 -- What comes of the run, where no refusal is due, or a refusal.
+use Rattle.std.specs.Prelude.{Ok, Err}
 use Rattle.std.proofs.Common.{◌≡◌, ℕ, length, refl}
 use Rattle.language.specs.declared.Refusal.{Refusal}
-use Rattle.language.specs.declared.Verdict.{Verdict}
-use Rattle.language.specs.declared.Verdict.TheVariants.{Fit, Refused}
+use Rattle.language.specs.Faults.{fault, Verdict}
 use Rattle.language.specs.Call.{chain}
 use Rattle.call_admission.specs.Lent.{fed_of}
 use Rattle.call_replies.specs.Replies.{admitted-call, refused-call, leaving-all, leaving-length}
 use Rattle.chain_call.proofs.call.Goals as goal
 
-is-fit : (v : Verdict) → ((c : Refusal) (o : ℕ) → v ≡ Refused c o → ⊥) → v ≡ Fit
-is-fit Fit d = refl
-is-fit (Refused c o) d = absurd (d c o refl)
+is-fit : (v : Verdict) → ((c : Refusal) (o : ℕ) → v ≡ Err (fault c o) → ⊥) → v ≡ Ok tt
+is-fit (Ok u) d = refl
+is-fit (Err e) d = absurd (d e.cause e.offset refl)
 
 pub ran-requires : goal.ran-requires
 ran-requires c =

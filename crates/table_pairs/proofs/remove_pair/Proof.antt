@@ -15,7 +15,7 @@ use Rattle.table_laws.specs.Listing.{Beside}
 use Rattle.table_laws.specs.ByList.{removed_by_list}
 use Rattle.table_laws.proofs.ByList.{removed-beside}
 use Rattle.table_search.specs.Places.{placed}
-use Rattle.table_search.specs.declared.PairPlace.{PairPlace}
+use Rattle.table_search.specs.Places.{PairPlace}
 use Rattle.table_search.proofs.Pairs.{find-clamped, find-below}
 use Rattle.table_search.proofs.Placed.{placed_at, placed-absent}
 use Rattle.table_pairs.specs.Outcomes.{table_of, change_of, count_after, words_after}
