@@ -24,22 +24,12 @@ pub struct CallNumbers {
 fn limits_fit(numbers: CallNumbers) -> bool
     ensures { result ≡ limits_fit (fed_of numbers [] [] [] []) }
 {
-    if numbers.d < 1 {
-        return false;
-    }
-    if 256 < numbers.d {
-        return false;
-    }
-    if 1000000 < numbers.n {
-        return false;
-    }
-    if numbers.g < 1 {
-        return false;
-    }
-    if 65535 < numbers.g {
-        return false;
-    }
-    numbers.tally <= 1000000000000
+    1 <= numbers.d
+        && numbers.d <= 256
+        && numbers.n <= 1000000
+        && 1 <= numbers.g
+        && numbers.g <= 65535
+        && numbers.tally <= 1000000000000
 }
 
 // Whether an area that one engine alone is lent, if it uses one, has so many records or words.

@@ -114,10 +114,8 @@ fn write_names(
     ensures sheet_after { (own ws base : List ℤ) → Owned cells.now first formals own → length own ≡ count → sheet.old ≡ written ws base → length ws ≡ at → sheet.new ≡ written (ws ++ own) base }
     ensures sheet_len_unchanged { length sheet.new ≡ length sheet.old }
 {
-    let mut i = 0;
-    while i < count {
+    for i in 0..count {
         sheet[at + i] = shown_word(cells, first, formals, i);
-        i += 1;
     }
 }
 
@@ -171,8 +169,7 @@ pub fn write_sheet(
     ensures { (fs : List Frame) → Held code.now cells.now blocks.now nexts.now links.now fs → length fs ≡ live → (sheet.new ≡ written (frame_sheet fs) sheet.old) × (result ≡ length (frame_sheet fs)) }
 {
     let mut at = 0;
-    let mut k = 0;
-    while k < live {
+    for k in 0..live {
         at = write_activation(
             code,
             cells,
@@ -183,7 +180,6 @@ pub fn write_sheet(
             sheet,
             at,
         );
-        k += 1;
     }
     at
 }
