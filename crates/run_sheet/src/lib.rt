@@ -120,6 +120,7 @@ fn write_names(
 }
 
 // The number of the activation that encloses activation k, by k's link; the program's link is none.
+#[tactic(auto, unfolding(crate::specs::Held::encloser_by))]
 pub fn encloser_of(k: usize, link: usize) -> usize
     requires { link < 4294967296 }
     ensures { result ≡ encloser_by k link }
