@@ -1,4 +1,5 @@
 pub mod Inside
 pub mod Skipping
 pub mod Noting
+pub mod Putting
 pub mod Pushing
