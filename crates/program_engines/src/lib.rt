@@ -65,8 +65,8 @@ fn by_chain(
     );
 }
 
-// A call of an engine, as C makes it, with the tally at 0: the answer's words, and what becomes of table, list of groups and sheet. The copying area has 65,536 words, the
-// records are for 256 activations.
+// A call of an engine, as C makes it and with C's parameters, the tally at 0: the answer's words, and what becomes of table, list of groups and sheet. The copying
+// area has 65,536 words, the records are for 256 activations.
 pub fn call(
     engine: Engine,
     script: &[u8],

@@ -1,8 +1,13 @@
-// Answers and words in print. No contract can say what is written.
+// Answers and words in print. No contract can say what is written; what an engine is in print is said.
+ghost use Rattle.std.specs.Prelude.{Some};
+ghost use Rattle.program_engines.specs.Names.{name_of};
+
 use super::Engine;
 use std::{fmt, io};
 
 impl fmt::Display for Engine {
+    ghost output = { λ e. Some (name_of e) };
+
     fn fmt<W: fmt::Write>(&self, f: &mut fmt::Formatter<W>) -> fmt::Result {
         f.write_str(match self {
             Engine::Copy => "copy",

@@ -69,7 +69,8 @@ enum Key {
     Word(u8),
 }
 
-// A row as far as it is read: the bytes of its script, how many they are, the number that is open, and what it stands for.
+// A row as far as it is read: the bytes of its script, how many they are (memory is fixed, so the number stands beside them), the number that is open, and
+// what it stands for.
 #[derive(Drop)]
 struct Row {
     script: [u8; 4096],
