@@ -11,7 +11,7 @@ use chain_records::Activation;
 mod printing;
 mod reading;
 
-pub use printing::{print_answer, print_number, print_words, say};
+pub use printing::{print_answer, print_words, say};
 pub use reading::read_full;
 
 // In the order in which programs name them.
@@ -21,6 +21,10 @@ pub enum Engine {
     Chain,
     Display,
     Search,
+}
+
+impl Engine {
+    pub const ALL: [Engine; 4] = [Engine::Copy, Engine::Chain, Engine::Display, Engine::Search];
 }
 
 // The chain engine's call, on records of its own.
@@ -61,8 +65,8 @@ fn by_chain(
     );
 }
 
-// A call of an engine, as C makes it, with the tally at 0: the answer's words, and what becomes of table, list of groups and sheet. The copying area has 65,536 words, the
-// records are for 256 activations.
+// A call of an engine, as C makes it and with C's parameters, the tally at 0: the answer's words, and what becomes of table, list of groups and sheet. The copying
+// area has 65,536 words, the records are for 256 activations.
 pub fn call(
     engine: Engine,
     script: &[u8],

@@ -4,7 +4,7 @@
 ghost use Rattle.std.specs.Io.{ReadsAtMost};
 ghost use Rattle.std.specs.Prelude.{◌≡◌, length};
 
-use program_engines::{Engine, call, print_answer, print_words, read_full, say};
+use program_engines::{Engine, call, print_answer, print_words, read_full};
 use std::fs::File;
 use std::io;
 use std::rt::Files;
@@ -55,14 +55,9 @@ fn read_script(rt: &(impl Files + Eprint + AllocGlobal), room: &mut [u8]) -> io:
 }
 
 // A line for each pair in use.
-fn print_pairs(out: &impl Print, table: &[i32], pairs: u64) -> io::Result<()> {
-    let mut pair: usize = 0;
-    while pair < 8 {
-        if pairs <= pair as u64 {
-            return Ok(());
-        }
-        print_words(out, table, 2 * pair, 2 * pair + 2)?;
-        pair += 1;
+fn print_pairs(out: &impl Print, table: &[i32; 16], pairs: u64) -> io::Result<()> {
+    for pair in table.chunks_exact(2).take(pairs as usize) {
+        print_words(out, pair, 0, 2)?;
     }
     Ok(())
 }
@@ -85,16 +80,16 @@ fn run(out: &impl Print, engine: Engine, script: &[u8]) -> io::Result<()> {
         &mut sheet,
     );
     print_answer(out, engine, answer, 6)?;
-    say(out, b"\n")?;
+    println!(out)?;
     print_pairs(out, &table, answer[4])
 }
 
 fn main(rt: HostRuntime) -> io::Result<()> {
     let mut room = [0u8; 2049];
     let length = read_script(&rt, &mut room)?;
-    say(&rt, b"engine end number steps offset pairs sheet\n")?;
-    run(&rt, Engine::Copy, &room[..length])?;
-    run(&rt, Engine::Chain, &room[..length])?;
-    run(&rt, Engine::Display, &room[..length])?;
-    run(&rt, Engine::Search, &room[..length])
+    println!(rt; "engine end number steps offset pairs sheet")?;
+    for engine in Engine::ALL {
+        run(&rt, engine, &room[..length])?;
+    }
+    Ok(())
 }

@@ -2,307 +2,253 @@
 // of it.
 #![tactic(auto)]
 
-ghost use Rattle.std.specs.Prelude.{◌<◌};
+ghost use Rattle.std.specs.Prelude.{IsTrue};
+ghost use Rattle.table_laws.specs.Listing.{HasList};
 
-use std::io;
-use table_pairs::{Change, Query};
+use language::Stop;
+use std::{fmt, io};
 
-const TEST: i32 = 0;
+enum Operation {
+    Test,
+    Add,
+    Remove,
+    Query,
+    Append,
+    TakeOut,
+}
 
-const AD: i32 = 1;
+impl fmt::Display for Operation {
+    fn fmt<W: fmt::Write>(&self, f: &mut fmt::Formatter<W>) -> fmt::Result {
+        f.pad(match self {
+            Operation::Test => "right?",
+            Operation::Add => "AD",
+            Operation::Remove => "RM",
+            Operation::Query => "QY",
+            Operation::Append => "append",
+            Operation::TakeOut => "take out",
+        })
+    }
+}
 
-const RM: i32 = 2;
+// What an operation is given: group and member (to take out, the place), G, the count of pairs (-1: the largest), the words of the table, at most eight, and
+// those of the list.
+struct Row {
+    operation: Operation,
+    group: i32,
+    member: i32,
+    limit: u16,
+    count: i32,
+    table: &'static [i32],
+    list: &'static [i32],
+}
 
-const QY: i32 = 3;
+macro_rules! row {
+    (
+        $operation:ident $group:literal $member:literal, G $limit:literal, pairs $count:literal,
+        [$($word:literal)*] [$($listed:literal)*]
+    ) => {
+        Row {
+            operation: Operation::$operation,
+            group: $group,
+            member: $member,
+            limit: $limit,
+            count: $count,
+            table: &[$($word),*],
+            list: &[$($listed),*],
+        }
+    };
+}
 
-const APPEND: i32 = 4;
-
-const TAKE_OUT: i32 = 5;
-
-// The operation, group and member (for TAKE_OUT the place), G, the count of pairs (-1: the largest), how many words, eight words, of which so many are the
-// table's, and eight of the list.
-const ROWS: [i32; 1078] = [
+// As they are printed.
+const ROWS: [Row; 49] = [
     // lengths and counts
-    TEST, 0, 0, 1, 0, 0, 0, 0, 0, 0, 0, 0, 0, 0, 0, 0, 0, 0, 0, 0, 0, 0, TEST, 0, 0, 1, 1, 0, 0, 0,
-    0, 0, 0, 0, 0, 0, 0, 0, 0, 0, 0, 0, 0, 0, AD, 5, 7, 1, 0, 0, 0, 0, 0, 0, 0, 0, 0, 0, 0, 0, 0,
-    0, 0, 0, 0, 0, QY, 5, 7, 0, 0, 0, 0, 0, 0, 0, 0, 0, 0, 0, 0, 0, 0, 0, 0, 0, 0, 0, TEST, 0, 0,
-    1, 1, 3, 1, 2, 3, 0, 0, 0, 0, 0, 1, 1, 0, 0, 0, 0, 0, 0, TEST, 0, 0, 3, 3, 4, 1, 2, 3, 4, 0, 0,
-    0, 0, 0, 0, 0, 0, 0, 0, 0, 0, TEST, 0, 0, 3, 2, 4, 1, 2, 3, 4, 0, 0, 0, 0, 1, 1, 3, 1, 0, 0, 0,
-    0,
+    row!(Test 0 0, G 1, pairs 0, [] []),
+    row!(Test 0 0, G 1, pairs 1, [] []),
+    row!(Add 5 7, G 1, pairs 0, [] []),
+    row!(Query 5 7, G 0, pairs 0, [] []),
+    row!(Test 0 0, G 1, pairs 1, [1 2 3] [1 1]),
+    row!(Test 0 0, G 3, pairs 3, [1 2 3 4] [0 0 0 0]),
+    row!(Test 0 0, G 3, pairs 2, [1 2 3 4] [1 1 3 1]),
     // a table of one place
-    TEST, 0, 0, 1, 0, 2, 0, 0, 0, 0, 0, 0, 0, 0, 0, 0, 0, 0, 0, 0, 0, 0, AD, 5, 7, 1, 0, 2, 0, 0,
-    0, 0, 0, 0, 0, 0, 0, 0, 0, 0, 0, 0, 0, 0, AD, 5, 7, 1, 1, 2, 5, 7, 0, 0, 0, 0, 0, 0, 5, 1, 0,
-    0, 0, 0, 0, 0, AD, 5, 8, 1, 1, 2, 5, 7, 0, 0, 0, 0, 0, 0, 5, 1, 0, 0, 0, 0, 0, 0, AD, 5, 8, 2,
-    1, 2, 5, 7, 0, 0, 0, 0, 0, 0, 5, 1, 0, 0, 0, 0, 0, 0, QY, 5, 7, 0, 1, 2, 5, 7, 0, 0, 0, 0, 0,
-    0, 5, 1, 0, 0, 0, 0, 0, 0, QY, 5, 8, 0, 1, 2, 5, 7, 0, 0, 0, 0, 0, 0, 5, 1, 0, 0, 0, 0, 0, 0,
-    RM, 5, 8, 9, 1, 2, 5, 7, 0, 0, 0, 0, 0, 0, 5, 1, 0, 0, 0, 0, 0, 0, RM, 5, 7, 9, 1, 2, 5, 7, 0,
-    0, 0, 0, 0, 0, 5, 1, 0, 0, 0, 0, 0, 0,
+    row!(Test 0 0, G 1, pairs 0, [0 0] [0 0]),
+    row!(Add 5 7, G 1, pairs 0, [0 0] [0 0]),
+    row!(Add 5 7, G 1, pairs 1, [5 7] [5 1]),
+    row!(Add 5 8, G 1, pairs 1, [5 7] [5 1]),
+    row!(Add 5 8, G 2, pairs 1, [5 7] [5 1]),
+    row!(Query 5 7, G 0, pairs 1, [5 7] [5 1]),
+    row!(Query 5 8, G 0, pairs 1, [5 7] [5 1]),
+    row!(Remove 5 8, G 9, pairs 1, [5 7] [5 1]),
+    row!(Remove 5 7, G 9, pairs 1, [5 7] [5 1]),
     // a pair twice; a group of G and of one more
-    TEST, 0, 0, 9, 3, 6, 5, 7, 6, 1, 5, 7, 0, 0, 5, 2, 6, 1, 0, 0, 0, 0, TEST, 0, 0, 9, 2, 6, 5, 7,
-    6, 1, 5, 7, 0, 0, 5, 1, 6, 1, 0, 0, 0, 0, TEST, 0, 0, 3, 3, 6, 5, 1, 5, 2, 5, 3, 0, 0, 5, 3, 0,
-    0, 0, 0, 0, 0, TEST, 0, 0, 2, 3, 6, 5, 1, 5, 2, 5, 3, 0, 0, 5, 3, 0, 0, 0, 0, 0, 0, AD, 5, 3,
-    2, 3, 8, 5, 1, 5, 2, 6, 1, 0, 0, 5, 2, 6, 1, 0, 0, 0, 0, AD, 5, 3, 3, 3, 8, 5, 1, 5, 2, 6, 1,
-    0, 0, 5, 2, 6, 1, 0, 0, 0, 0,
+    row!(Test 0 0, G 9, pairs 3, [5 7 6 1 5 7] [5 2 6 1 0 0]),
+    row!(Test 0 0, G 9, pairs 2, [5 7 6 1 5 7] [5 1 6 1 0 0]),
+    row!(Test 0 0, G 3, pairs 3, [5 1 5 2 5 3] [5 3 0 0 0 0]),
+    row!(Test 0 0, G 2, pairs 3, [5 1 5 2 5 3] [5 3 0 0 0 0]),
+    row!(Add 5 3, G 2, pairs 3, [5 1 5 2 6 1 0 0] [5 2 6 1 0 0 0 0]),
+    row!(Add 5 3, G 3, pairs 3, [5 1 5 2 6 1 0 0] [5 2 6 1 0 0 0 0]),
     // numbers below 1 and the largest; a free place is not judged
-    TEST, 0, 0, 1, 1, 2, 0, 1, 0, 0, 0, 0, 0, 0, 0, 1, 0, 0, 0, 0, 0, 0, TEST, 0, 0, 1, 1, 2, 1, 0,
-    0, 0, 0, 0, 0, 0, 1, 1, 0, 0, 0, 0, 0, 0, TEST, 0, 0, 1, 1, 2, -1, 1, 0, 0, 0, 0, 0, 0, -1, 1,
-    0, 0, 0, 0, 0, 0, TEST, 0, 0, 1, 1, 4, 1, 1, -1, 0, 0, 0, 0, 0, 1, 1, 0, 0, 0, 0, 0, 0, TEST,
-    0, 0, 1, 1, 2, 2147483647, 2147483647, 0, 0, 0, 0, 0, 0, 2147483647, 1, 0, 0, 0, 0, 0, 0, AD,
-    0, 7, 1, 0, 2, 0, 0, 0, 0, 0, 0, 0, 0, 0, 0, 0, 0, 0, 0, 0, 0, AD, 7, -1, 1, 0, 2, 0, 0, 0, 0,
-    0, 0, 0, 0, 0, 0, 0, 0, 0, 0, 0, 0, AD, 2147483647, 2147483647, 1, 0, 2, 0, 0, 0, 0, 0, 0, 0,
-    0, 0, 0, 0, 0, 0, 0, 0, 0, RM, 0, 7, 9, 1, 2, 2147483647, 2147483647, 0, 0, 0, 0, 0, 0,
-    2147483647, 1, 0, 0, 0, 0, 0, 0, QY, 7, -1, 0, 1, 2, 2147483647, 2147483647, 0, 0, 0, 0, 0, 0,
-    2147483647, 1, 0, 0, 0, 0, 0, 0, QY, 2147483647, 2147483647, 0, 1, 2, 2147483647, 2147483647,
-    0, 0, 0, 0, 0, 0, 2147483647, 1, 0, 0, 0, 0, 0, 0,
+    row!(Test 0 0, G 1, pairs 1, [0 1] [0 1]),
+    row!(Test 0 0, G 1, pairs 1, [1 0] [1 1]),
+    row!(Test 0 0, G 1, pairs 1, [-1 1] [-1 1]),
+    row!(Test 0 0, G 1, pairs 1, [1 1 -1 0] [1 1 0 0]),
+    row!(Test 0 0, G 1, pairs 1, [2147483647 2147483647] [2147483647 1]),
+    row!(Add 0 7, G 1, pairs 0, [0 0] [0 0]),
+    row!(Add 7 -1, G 1, pairs 0, [0 0] [0 0]),
+    row!(Add 2147483647 2147483647, G 1, pairs 0, [0 0] [0 0]),
+    row!(Remove 0 7, G 9, pairs 1, [2147483647 2147483647] [2147483647 1]),
+    row!(Query 7 -1, G 0, pairs 1, [2147483647 2147483647] [2147483647 1]),
+    row!(Query 2147483647 2147483647, G 0, pairs 1, [2147483647 2147483647] [2147483647 1]),
     // the first, the last and the middle pair taken out
-    RM, 1, 1, 9, 3, 8, 1, 1, 2, 2, 3, 3, 9, 9, 1, 1, 2, 1, 3, 1, 0, 0, RM, 3, 3, 9, 3, 8, 1, 1, 2,
-    2, 3, 3, 9, 9, 1, 1, 2, 1, 3, 1, 0, 0, RM, 2, 2, 9, 3, 8, 1, 1, 2, 2, 3, 3, 9, 9, 1, 1, 2, 1,
-    3, 1, 0, 0,
+    row!(Remove 1 1, G 9, pairs 3, [1 1 2 2 3 3 9 9] [1 1 2 1 3 1 0 0]),
+    row!(Remove 3 3, G 9, pairs 3, [1 1 2 2 3 3 9 9] [1 1 2 1 3 1 0 0]),
+    row!(Remove 2 2, G 9, pairs 3, [1 1 2 2 3 3 9 9] [1 1 2 1 3 1 0 0]),
     // a count that does not fit, or an odd length
-    TAKE_OUT, 0, 0, 0, -1, 6, 1, 1, 2, 2, 3, 3, 0, 0, 0, 0, 0, 0, 0, 0, 0, 0, TAKE_OUT, 0, 0, 0, 2,
-    5, 1, 1, 2, 2, 3, 0, 0, 0, 1, 1, 2, 1, 0, 0, 0, 0, TAKE_OUT, 0, 0, 0, 3, 5, 1, 1, 2, 2, 3, 0,
-    0, 0, 0, 0, 0, 0, 0, 0, 0, 0, TAKE_OUT, 1, 0, 0, 3, 5, 1, 1, 2, 2, 3, 0, 0, 0, 0, 0, 0, 0, 0,
-    0, 0, 0, TAKE_OUT, 1, 0, 0, 1, 4, 1, 1, 2, 2, 0, 0, 0, 0, 1, 1, 0, 0, 0, 0, 0, 0, TAKE_OUT, 2,
-    0, 0, 3, 4, 1, 1, 2, 2, 0, 0, 0, 0, 0, 0, 0, 0, 0, 0, 0, 0, APPEND, 5, 7, 0, 2, 4, 1, 1, 2, 2,
-    0, 0, 0, 0, 1, 1, 2, 1, 0, 0, 0, 0, APPEND, 5, 7, 0, -1, 4, 1, 1, 2, 2, 0, 0, 0, 0, 0, 0, 0, 0,
-    0, 0, 0, 0, APPEND, 5, 7, 0, 1, 3, 1, 1, 9, 0, 0, 0, 0, 0, 1, 1, 0, 0, 0, 0, 0, 0,
+    row!(TakeOut 0 0, G 0, pairs -1, [1 1 2 2 3 3] [0 0 0 0 0 0]),
+    row!(TakeOut 0 0, G 0, pairs 2, [1 1 2 2 3] [1 1 2 1]),
+    row!(TakeOut 0 0, G 0, pairs 3, [1 1 2 2 3] [0 0 0 0]),
+    row!(TakeOut 1 0, G 0, pairs 3, [1 1 2 2 3] [0 0 0 0]),
+    row!(TakeOut 1 0, G 0, pairs 1, [1 1 2 2] [1 1 0 0]),
+    row!(TakeOut 2 0, G 0, pairs 3, [1 1 2 2] [0 0 0 0]),
+    row!(Append 5 7, G 0, pairs 2, [1 1 2 2] [1 1 2 1]),
+    row!(Append 5 7, G 0, pairs -1, [1 1 2 2] [0 0 0 0]),
+    row!(Append 5 7, G 0, pairs 1, [1 1 9] [1 1]),
     // lists that are not right: a number, the order, a group of no members, a missing group
-    TEST, 0, 0, 3, 2, 4, 1, 2, 3, 4, 0, 0, 0, 0, 1, 2, 3, 1, 0, 0, 0, 0, TEST, 0, 0, 3, 2, 4, 1, 2,
-    3, 4, 0, 0, 0, 0, 3, 1, 1, 1, 0, 0, 0, 0, TEST, 0, 0, 3, 1, 4, 1, 2, 3, 4, 0, 0, 0, 0, 1, 1, 3,
-    0, 0, 0, 0, 0, TEST, 0, 0, 3, 2, 4, 1, 2, 3, 4, 0, 0, 0, 0, 1, 1, 0, 0, 0, 0, 0, 0,
+    row!(Test 0 0, G 3, pairs 2, [1 2 3 4] [1 2 3 1]),
+    row!(Test 0 0, G 3, pairs 2, [1 2 3 4] [3 1 1 1]),
+    row!(Test 0 0, G 3, pairs 1, [1 2 3 4] [1 1 3 0]),
+    row!(Test 0 0, G 3, pairs 2, [1 2 3 4] [1 1 0 0]),
 ];
 
-fn say(out: &impl Print, text: &[u8]) -> io::Result<()> {
-    out.write_all(text)
-}
+// A number in print: of one below 0 only that.
+#[derive(Drop)]
+struct Shown(i32);
 
-fn natural(number: i32) -> usize
-    ensures { result < 2147483648 }
-{
-    if number < 0 {
-        return 0;
+impl fmt::Display for Shown {
+    fn fmt<W: fmt::Write>(&self, f: &mut fmt::Formatter<W>) -> fmt::Result {
+        if self.0 < 0 {
+            return f.write_str("below 0");
+        }
+        let number = self.0;
+        write!(f, "{number}")
     }
-    number as usize
 }
 
-fn largest_below_zero(number: i32) -> usize {
-    if number < 0 {
-        return 18446744073709551615;
+fn print_words(out: &impl Print, words: &[i32]) -> io::Result<()> {
+    print!(out; " [")?;
+    for &word in words {
+        print!(out; " {}", Shown(word))?;
     }
-    natural(number)
+    print!(out; " ]")
 }
 
-fn number(out: &impl Print, label: &[u8], value: i32) -> io::Result<()> {
-    say(out, label)?;
-    if value < 0 {
-        return say(out, b"below 0");
-    }
-    let from_zero = natural(value);
-    print!(out; "{from_zero}")
+fn stopped(out: &impl Print, cause: Stop) -> io::Result<()> {
+    print!(out; ": cause {}", u32::from(cause))
 }
 
-fn words(out: &impl Print, table: &[i32]) -> io::Result<()> {
-    say(out, b" [")?;
-    let mut i = 0;
-    while i < table.len() {
-        number(out, b" ", table[i])?;
-        i += 1;
-    }
-    say(out, b" ]")
-}
-
-// Its name, of eight letters.
-fn operation(out: &impl Print, code: usize) -> io::Result<()> {
-    let names = *b"right?  AD      RM      QY      append  take out";
-    if code < 6 {
-        let start = 8 * code;
-        let end = start + 8;
-        return say(out, &names[start..end]);
-    }
-    Ok(())
-}
-
-fn stopped(out: &impl Print, cause: language::Stop) -> io::Result<()> {
-    let cause = language::stop_number(cause);
-    print!(out; ": cause {cause}")
-}
-
-fn changed(out: &impl Print, outcome: Change) -> io::Result<()> {
+fn changed(out: &impl Print, outcome: Result<usize, Stop>) -> io::Result<()> {
     match outcome {
-        Change::Done(count) => print!(out; ": pairs {count}"),
-        Change::Stopped(cause) => stopped(out, cause),
+        Ok(count) => print!(out; ": pairs {count}"),
+        Err(cause) => stopped(out, cause),
     }
 }
 
-fn asked(out: &impl Print, outcome: Query) -> io::Result<()> {
+fn asked(out: &impl Print, outcome: Result<i32, Stop>) -> io::Result<()> {
     match outcome {
-        Query::Value(value) => number(out, b": ", value),
-        Query::Stopped(cause) => stopped(out, cause),
+        Ok(value) => print!(out; ": {}", Shown(value)),
+        Err(cause) => stopped(out, cause),
     }
 }
 
 fn judged(out: &impl Print, right: bool) -> io::Result<()> {
-    if right {
-        say(out, b": right")
-    } else {
-        say(out, b": not right")
+    let judgement = if right { "right" } else { "not right" };
+    print!(out; ": {judgement}")
+}
+
+// Whether the table is right and has its list beside it; a list that is too short is none.
+fn right(limit: u16, count: usize, table: &[i32], list: &[i32]) -> bool
+    ensures { IsTrue result → HasList limit table.now count list.now }
+{
+    if list.len() < 2 * (table.len() / 2) {
+        return false;
     }
+    table_test::table_and_list_right(table, count, u32::from(limit), list)
 }
 
 // AD and RM ask for a right table and its list.
 fn change(
     out: &impl Print,
-    code: i32,
-    group: i32,
-    member: i32,
-    limit: u32,
+    row: &Row,
     count: usize,
     table: &mut [i32],
-    groups: &mut [i32],
+    list: &mut [i32],
 ) -> io::Result<()> {
-    if groups.len() < 2 * (table.len() / 2) {
-        return Ok(());
-    }
-    if 65535 < limit {
-        return Ok(());
-    }
-    if !table_test::table_and_list_right(table, count, limit, groups) {
+    let limit = row.limit;
+    if !right(limit, count, table, list) {
         return judged(out, false);
     }
-    if code == AD {
-        let outcome = table_pairs::add_pair(table, groups, count, limit, group, member);
-        return changed(out, outcome);
-    }
-    let outcome = table_pairs::remove_pair(table, groups, count, group, member);
+    let outcome = match row.operation {
+        Operation::Add => {
+            let limit = u32::from(limit);
+            table_pairs::add_pair(table, list, count, limit, row.group, row.member)
+        }
+        _ => table_pairs::remove_pair(table, list, count, row.group, row.member),
+    };
     changed(out, outcome)
 }
 
-fn test(
-    out: &impl Print,
-    limit: u32,
-    count: usize,
-    table: &[i32],
-    groups: &[i32],
-) -> io::Result<()> {
-    if groups.len() < 2 * (table.len() / 2) {
-        return Ok(());
+fn run(out: &impl Print, row: &Row, table: &mut [i32], list: &mut [i32]) -> io::Result<()> {
+    let count = usize::try_from(row.count).unwrap_or(usize::MAX);
+    match row.operation {
+        Operation::Test => judged(out, right(row.limit, count, table, list)),
+        Operation::Add | Operation::Remove => change(out, row, count, table, list),
+        Operation::Query => {
+            let outcome = table_pairs::query_pair(table, count, row.group, row.member);
+            asked(out, outcome)
+        }
+        Operation::Append => {
+            table_pairs::append(table, count, row.group, row.member);
+            Ok(())
+        }
+        Operation::TakeOut => {
+            let place = usize::try_from(row.group).unwrap_or(0);
+            table_moves::take_out(table, count, place);
+            Ok(())
+        }
     }
-    let right = table_test::table_and_list_right(table, count, limit, groups);
-    judged(out, right)
 }
 
-fn run(
-    out: &impl Print,
-    code: i32,
-    group: i32,
-    member: i32,
-    limit: u32,
-    count: usize,
-    table: &mut [i32],
-    groups: &mut [i32],
-) -> io::Result<()> {
-    if code == TEST {
-        return test(out, limit, count, table, groups);
-    }
-    if code == QY {
-        let outcome = table_pairs::query_pair(table, count, group, member);
-        return asked(out, outcome);
-    }
-    if code == APPEND {
-        table_pairs::append(table, count, group, member);
-        return Ok(());
-    }
-    if code == TAKE_OUT {
-        table_moves::take_out(table, count, natural(group));
-        return Ok(());
-    }
-    change(out, code, group, member, limit, count, table, groups)
+// The words of a row, at most eight, in a place where a function may change them.
+fn copied<'a>(words: &[i32], room: &'a mut [i32; 8]) -> &'a mut [i32] {
+    let length = words.len().min(8);
+    let copy = &mut room[..length];
+    copy.copy_from_slice(&words[..length]);
+    copy
 }
 
-// The words before and after.
-fn report(
-    out: &impl Print,
-    code: i32,
-    group: i32,
-    member: i32,
-    limit: u32,
-    count: usize,
-    table: &mut [i32],
-    groups: &mut [i32],
-) -> io::Result<()> {
-    words(out, table)?;
-    words(out, groups)?;
-    run(out, code, group, member, limit, count, table, groups)?;
-    words(out, table)?;
-    words(out, groups)?;
-    say(out, b"\n")
-}
-
-fn field(row: &[i32], i: usize) -> i32 {
-    if i < row.len() {
-        return row[i];
-    }
-    0
-}
-
-fn given(out: &impl Print, row: &[i32]) -> io::Result<()> {
-    operation(out, natural(field(row, 0)))?;
-    number(out, b" ", field(row, 1))?;
-    number(out, b" ", field(row, 2))?;
-    number(out, b", G ", field(row, 3))?;
-    number(out, b", pairs ", field(row, 4))
-}
-
-fn sample(out: &impl Print, row: &[i32], words: &mut [i32], list: &mut [i32]) -> io::Result<()> {
-    let end = natural(field(row, 5));
-    if words.len() < end {
-        return Ok(());
-    }
-    if list.len() < end {
-        return Ok(());
-    }
-    given(out, row)?;
-    let limit = natural(field(row, 3)) as u32;
-    let count = largest_below_zero(field(row, 4));
-    let needed = end / 2 * 2;
-    report(
-        out,
-        field(row, 0),
-        field(row, 1),
-        field(row, 2),
-        limit,
-        count,
-        &mut words[..end],
-        &mut list[..needed],
-    )
-}
-
-// Eight numbers of a row, from one on.
-fn part(rows: &[i32], from: usize) -> [i32; 8]
-    requires { from < 22 }
-{
-    let mut words = [0i32; 8];
-    let mut i: usize = 0;
-    while i < 8 {
-        words[i] = field(rows, from + i);
-        i += 1;
-    }
-    words
-}
-
-fn all_samples(out: &impl Print, rows: &[i32]) -> io::Result<()> {
-    let mut at = 0;
-    while 22 <= rows.len() - at {
-        let end = at + 22;
-        let mut table = part(&rows[at..end], 6);
-        let mut list = part(&rows[at..end], 14);
-        sample(out, &rows[at..end], &mut table, &mut list)?;
-        at = end;
-    }
-    Ok(())
+// What was given, with the words before and after.
+fn sample(out: &impl Print, row: &Row) -> io::Result<()> {
+    let mut table_room = [0; 8];
+    let table = copied(row.table, &mut table_room);
+    let mut list_room = [0; 8];
+    let list = copied(row.list, &mut list_room);
+    print!(out;
+        "{:8} {} {}",
+        row.operation,
+        Shown(row.group),
+        Shown(row.member)
+    )?;
+    print!(out; ", G {}, pairs {}", row.limit, Shown(row.count))?;
+    print_words(out, table)?;
+    print_words(out, list)?;
+    run(out, row, table, list)?;
+    print_words(out, table)?;
+    print_words(out, list)?;
+    println!(out)
 }
 
 fn main(rt: HostRuntime) -> io::Result<()> {
-    let rows = ROWS;
-    all_samples(&rt, &rows)
+    for row in &ROWS {
+        sample(&rt, row)?;
+    }
+    Ok(())
 }

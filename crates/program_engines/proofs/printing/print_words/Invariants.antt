@@ -1,6 +1,0 @@
--- The words left fall.
-use Rattle.std.proofs.Common.{◌-◌}
-use Rattle.program_engines.proofs.printing.print_words.Given as goal
-
-abbrev pub decreases-loop-at : goal.decreases-loop-at
-decreases-loop-at g l = l.to - l.at

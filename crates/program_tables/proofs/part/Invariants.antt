@@ -1,9 +1,0 @@
--- No number of a row is far from its start.
-use Rattle.std.proofs.Common.{◌-◌, ◌≤◌}
-use Rattle.program_tables.proofs.part.Given as goal
-
-abbrev pub invariant-loop-i : goal.invariant-loop-i
-invariant-loop-i l = l.i ≤ 8
-
-abbrev pub decreases-loop-i : goal.decreases-loop-i
-decreases-loop-i l = 8 - l.i
