@@ -44,6 +44,7 @@ pub fn hash(table: &[i32], whole: bool, i: usize) -> u64
     mixed(combined(group, 0))
 }
 
+#[tactic(auto, unfolding(crate::specs::Hashes::class_of))]
 pub fn class_of(hash: u64, classes: u64) -> u64
     requires { classes < 281474976710656 }
     ensures { result ≡ class_of classes hash }
@@ -51,6 +52,7 @@ pub fn class_of(hash: u64, classes: u64) -> u64
     hash % 65536 * classes / 65536
 }
 
+#[tactic(auto, unfolding(crate::specs::Hashes::bucket))]
 pub fn bucket_of(buckets: u64, hash: u64) -> usize
     requires buckets_bound { buckets ≤ 4294967296 }
     requires buckets_nonzero { 0 < buckets }
