@@ -33,6 +33,8 @@ fn mixed(h: u64) -> u64
     (a ^ (a / 65536)) % 4294967296 * 3266489909
 }
 
+// `whole` is true at every call today, and stays: the size of a group is the same rule with false (`groups-within` of table_test), and a must-fail edit of
+// table_once takes the group alone for the key.
 pub fn hash(table: &[i32], whole: bool, i: usize) -> u64
     requires { 2 * i + 1 < length table.now }
     ensures { result ≡ hash_at whole table.now i }
