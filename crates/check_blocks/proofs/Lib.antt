@@ -9,3 +9,4 @@ pub mod BlockLaws
 pub mod Loops
 pub mod Shapes
 pub mod Rows
+pub mod Sizes
