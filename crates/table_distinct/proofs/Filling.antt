@@ -16,7 +16,7 @@ use Rattle.table_probes.specs.Probes.{Reached, Kept, kept-none, kept_put, absent
 use Rattle.table_keys.specs.Keys.{same_at, rank_at}
 use Rattle.table_keys.proofs.Keys.{alike-rises}
 use Rattle.table_keys.proofs.Ranks.{counted-hit, rank-counted, rank-one}
-use Rattle.table_distinct.specs.Slots.{numbers_at, word_at, slot_of, home_of, Stored, Holds, Cleared, Stands, Filled, Keyed}
+use Rattle.table_distinct.specs.Slots.{numbers_at, word_at, slot_of, home_of, Stored, Holds, Stands, Filled, Keyed}
 use Rattle.table_distinct.proofs.Words.{same_word, word_same}
 
 pub slot-below : (size hash : ℕ) → 0 < size → slot_of size hash < size
@@ -25,9 +25,6 @@ slot-below size hash h =
     let x = hash % 4294967296 in
     let b : x < 4294967296 = mod-lt _ (omega arith) in
     (div-lt_iff_lt-mul {k = 4294967296} {x = x * size} {y = size} (omega arith)).1 (omega (arith, mul-lt-mul_of_pos_right {k = size} b h))
-
-pub cleared-new : (count size : ℕ) → count < size → size < 4294967296 → Cleared count (replicate size 0)
-cleared-new count size h k = record { size = size; clear = refl; more = h; few = k }
 
 pub filled_none : (key_in : ℕ → ℕ) (ws : List ℤ) (mine : ℕ → Bool) (size : ℕ) → Filled key_in ws mine 0 0 (replicate size 0)
 filled_none key_in ws mine size =

@@ -1,5 +1,5 @@
 -- Pairs in slots: a slot holds a pair as one word, never 0 where the numbers are at least 1.
-use Rattle.std.specs.Prelude.{ℕ, ◌+◌, ◌*◌, ◌/◌, ◌%◌, ◌<◌, ◌≡◌, Bool, true, ◌&&◌, List, ℤ, nat_abs, length, get_or, set, replicate}
+use Rattle.std.specs.Prelude.{ℕ, ◌+◌, ◌*◌, ◌/◌, ◌%◌, ◌<◌, ◌≡◌, Bool, true, ◌&&◌, List, ℤ, nat_abs, length, get_or, set}
 use Rattle.language.specs.Table.{at_least_one}
 use Rattle.laws.specs.Tables.{group_at, member_at}
 use Rattle.table_probes.specs.Room.{room}
@@ -39,13 +39,6 @@ pub record Holds (key_in : ℕ → ℕ) (slots : List ℕ) (key : ℕ) : Type 0 
   pub slot : ℕ
   pub used : Used slots slot
   pub there : key_in (get_or slots slot 0) ≡ key
-
--- empty slots, more than there are pairs
-pub record Cleared (count : ℕ) (slots : List ℕ) : Type 0 where
-  pub size : ℕ
-  pub clear : slots ≡ replicate size 0
-  pub more : count < size
-  pub few : size < 4294967296
 
 -- a pair among the first i has the word
 pub record Stands (ws : List ℤ) (i w : ℕ) : Type 0 where

@@ -6,7 +6,7 @@ ghost use Rattle.language.specs.Table.{at_least_one, numbers_right};
 ghost use Rattle.laws.specs.Tables.{member_at};
 ghost use Rattle.table_probes.specs.Room.{room};
 ghost use Rattle.table_keys.specs.Keys.{within};
-ghost use Rattle.table_distinct.specs.Slots.{numbers_at, word_at, hash_of, slot_of, whole, Stored, Holds, Cleared};
+ghost use Rattle.table_distinct.specs.Slots.{numbers_at, word_at, hash_of, slot_of, whole, Stored, Holds};
 
 use table_search::{group_at, member_at};
 
@@ -52,7 +52,7 @@ pub fn home_of(hash: u64, size: usize) -> usize
     (hash % 4294967296 * (size as u64) / 4294967296) as usize
 }
 
-// Whether the key is new: then it is stored in the first empty slot from `home` on.
+// Whether the key is new: then it is stored in the first empty slot from `home` on. The search goes round the slots, so it is no `for`.
 pub fn store(slots: &mut [u64], key: u64, home: usize) -> bool
     requires home_in_bounds { home < length slots.old }
     requires slots_nonzero { 0 < room slots.old }
@@ -73,61 +73,20 @@ pub fn store(slots: &mut [u64], key: u64, home: usize) -> bool
     true
 }
 
-// Whether the pairs differ, in slots of which one stays empty.
-fn differ_in(table: &[i32], count: usize, slots: &mut [u64]) -> bool
+// Whether the pairs differ, in slots of which one stays empty. Fewer slots are cleared sooner, and where most are in use, a search passes many.
+pub fn differ_in_slots<const SLOTS: usize>(table: &[i32], count: usize) -> bool
     requires count_in_bounds { 2 * count ≤ length table.now }
     requires table_value { numbers_right count table.now ≡ true }
-    requires cleared { Cleared count slots.old }
+    requires count_bound { count < SLOTS }
+    requires slots_bound { SLOTS < 4294967296 }
     ensures { result ≡ within true 1 count table.now }
 {
-    let mut i = 0;
-    while i < count {
-        let home = home_of(hash_at(table, i), slots.len());
-        if !store(slots, word_at(table, i), home) {
+    let mut slots = [0u64; SLOTS];
+    for i in 0..count {
+        let home = home_of(hash_at(table, i), SLOTS);
+        if !store(&mut slots, word_at(table, i), home) {
             return false;
         }
-        i += 1;
     }
     true
-}
-
-// Fewer slots are cleared sooner, and where most are in use, a search passes many.
-pub fn differ_in_128(table: &[i32], count: usize) -> bool
-    requires count_in_bounds { 2 * count ≤ length table.now }
-    requires table_value { numbers_right count table.now ≡ true }
-    requires count_bound { count < 128 }
-    ensures { result ≡ within true 1 count table.now }
-{
-    let mut slots = [0u64; 128];
-    differ_in(table, count, &mut slots)
-}
-
-pub fn differ_in_2048(table: &[i32], count: usize) -> bool
-    requires count_in_bounds { 2 * count ≤ length table.now }
-    requires table_value { numbers_right count table.now ≡ true }
-    requires count_bound { count < 2048 }
-    ensures { result ≡ within true 1 count table.now }
-{
-    let mut slots = [0u64; 2048];
-    differ_in(table, count, &mut slots)
-}
-
-pub fn differ_in_8192(table: &[i32], count: usize) -> bool
-    requires count_in_bounds { 2 * count ≤ length table.now }
-    requires table_value { numbers_right count table.now ≡ true }
-    requires count_bound { count < 8192 }
-    ensures { result ≡ within true 1 count table.now }
-{
-    let mut slots = [0u64; 8192];
-    differ_in(table, count, &mut slots)
-}
-
-pub fn differ_in_32768(table: &[i32], count: usize) -> bool
-    requires count_in_bounds { 2 * count ≤ length table.now }
-    requires table_value { numbers_right count table.now ≡ true }
-    requires count_bound { count < 32768 }
-    ensures { result ≡ within true 1 count table.now }
-{
-    let mut slots = [0u64; 32768];
-    differ_in(table, count, &mut slots)
 }

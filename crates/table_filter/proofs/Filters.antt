@@ -15,7 +15,7 @@ use lib.ListN.{length, get_or, set, replicate, length-set, length-replicate}
 use lib.Seq.{get_or-set_same, get_or-set_other, set_out}
 use Rattle.laws.specs.Tests.{never}
 use Rattle.table_keys.specs.Keys.{same_at, rank_at}
-use Rattle.table_hash.specs.Hashes.{hash_at, bucket, mask_of, mark_of, bucket_at, mask_at, mark_at}
+use Rattle.table_hash.specs.Hashes.{hash_at, class_of, class_at, bucket, mask_of, mark_of, bucket_at, mask_at, mark_at}
 use Rattle.table_filter.specs.Filter.{covers, join, Has, suspected, OfClass, Cleared, Inserted}
 use Rattle.table_keys.proofs.Each.{below_next}
 use Rattle.table_keys.proofs.Ranks.{rank-one}
@@ -141,3 +141,22 @@ module _ {whole : Bool} {ws : List ℤ} {classes class i : ℕ} {seen marks : Li
             (has-own seen q mask (omega (arith, done.seen-words, bucket-below 28160 (hash_at whole ws i) (omega arith))))) l;
         cleared = λ j l m. below_next j i (λ k. still after g j (done.cleared j k m)) (λ z. subst (Cleared whole ws 1 after) (sym z) t) l;
       }
+
+  -- a pair of the class sets its own bits, one of another class any
+  pub insert-either :
+      (after : List ℕ) {q m : ℕ} → Grown after → (Mine i → (q ≡ bucket_at 28160 whole ws i) × (m ≡ mask_at whole ws i)) →
+      (Mine i → Cleared whole ws 1 after i) → Inserted whole ws classes class (i + 1) (put_in seen q m) after
+  insert-either after {q} {m} g e t = go (eqb (class_at whole ws classes i) class) refl
+    where
+      go : (b : Bool) → eqb (class_at whole ws classes i) class ≡ b → Inserted whole ws classes class (i + 1) (put_in seen q m) after
+      go true z =
+          let own = eqb-true (class_at whole ws classes i) class z in
+          subst (λ (T : Type 0). T) (λ j. Inserted whole ws classes class (i + 1) (put_in seen (sym (e own).0 j) (sym (e own).1 j)) after) (insert-next after g (t own))
+      go false z = insert-skip q m after g (eqb-false (class_at whole ws classes i) class z)
+
+-- the class that the code has, by the hash that it has
+pub own-class :
+    (whole : Bool) (ws : List ℤ) (classes class i : ℕ) {h c : ℕ} → h ≡ hash_at whole ws i → c ≡ class_of classes h → OfClass whole ws classes class i →
+    eqb c class ≡ true
+unfolding class_at
+own-class whole ws classes class i {h} {c} hashed classed m = eq-eqb c class (classed ∙ ap (class_of classes) hashed ∙ m)

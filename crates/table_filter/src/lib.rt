@@ -14,25 +14,17 @@ fn is_covered(word: u64, mask: u64) -> bool
     word & mask == mask
 }
 
-fn joined(word: u64, mask: u64) -> u64
-    ensures { result ≡ join word mask }
-{
-    word | mask
-}
-
 // A mask's bits are set in a word.
 pub fn put(bits: &mut [u64], q: usize, mask: u64)
     requires { q < length bits.old }
     ensures { bits.new ≡ set bits.old q (join (get_or bits.old q 0) mask) }
 {
-    let word = joined(bits[q], mask);
-    bits[q] = word;
+    bits[q] |= mask;
 }
 
 // Whether the bits of the pair at `i`, whose hash is known, are set among the marks.
-pub fn is_suspected(table: &[i32], whole: bool, i: usize, h: u64, marks: &[u64]) -> bool
-    requires h_value { h ≡ hash_at whole table.now i }
-    requires marks_len { length marks.now ≡ 4096 }
+pub fn is_suspected(table: &[i32], whole: bool, i: usize, h: u64, marks: &[u64; 4096]) -> bool
+    requires { h ≡ hash_at whole table.now i }
     ensures { result ≡ suspected whole table.now marks.now i }
 {
     is_covered(marks[mark_of(h)], mask_of(h))
@@ -66,8 +58,8 @@ fn insert(
     class: u64,
     classes: u64,
     i: usize,
-    seen: &mut [u64],
-    marks: &mut [u64],
+    seen: &mut [u64; 28161],
+    marks: &mut [u64; 4096],
 )
     requires i_in_bounds { 2 * i + 1 < length table.now }
     requires classes_bound { classes < 281474976710656 }
@@ -85,15 +77,10 @@ fn insert(
     }
 }
 
-pub fn clear_marks(marks: &mut [u64])
-    requires { length marks.old ≡ 4096 }
+pub fn clear_marks(marks: &mut [u64; 4096])
     ensures { (q : ℕ) → get_or marks.new q 0 ≡ 0 }
 {
-    let mut i = 0;
-    while i < 4096 {
-        marks[i] = 0;
-        i += 1;
-    }
+    marks.fill(0);
 }
 
 // The pairs of a class that are not suspected have a key that no pair before them has.
@@ -103,17 +90,14 @@ pub fn insert_all(
     whole: bool,
     class: u64,
     classes: u64,
-    marks: &mut [u64],
+    marks: &mut [u64; 4096],
 )
     requires count_in_bounds { 2 * count ≤ length table.now }
     requires classes_bound { classes < 281474976710656 }
-    requires marks_len { length marks.old ≡ 4096 }
     ensures { (j : ℕ) → j < count → OfClass whole table.now classes class j → Cleared whole table.now 1 marks.new j }
 {
     let mut seen = [0u64; 28161];
-    let mut i = 0;
-    while i < count {
+    for i in 0..count {
         insert(table, whole, class, classes, i, &mut seen, marks);
-        i += 1;
     }
 }

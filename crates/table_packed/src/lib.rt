@@ -6,7 +6,7 @@ ghost use Rattle.std.specs.Prelude.{◌≡◌, true, false, ℕ, ◌+◌, ◌*�
 ghost use Rattle.language.specs.Table.{numbers_right};
 ghost use Rattle.table_probes.specs.Room.{room};
 ghost use Rattle.table_keys.specs.Keys.{within};
-ghost use Rattle.table_distinct.specs.Slots.{numbers_at, word_at, hash_of, Holds, Cleared};
+ghost use Rattle.table_distinct.specs.Slots.{numbers_at, word_at, hash_of, Holds};
 ghost use Rattle.table_packed.specs.Packed.{tag_of, pair_in, Named, Placed, NewIn};
 
 use table_distinct::{hash_at, home_of, word_at};
@@ -33,7 +33,7 @@ fn is_pair(table: &[i32], i: usize, tag: u32, word: u32) -> bool
     word_at(table, (word % 65536 - 1) as usize) == word_at(table, i)
 }
 
-// Whether the pair at `i` is new: then its place is stored in the first empty slot from its home on.
+// Whether the pair at `i` is new: then its place is stored in the first empty slot from its home on. The search goes round the slots, so it is no `for`.
 fn store(table: &[i32], i: usize, hash: u64, slots: &mut [u32]) -> bool
     requires i_in_bounds { 2 * i + 1 < length table.now }
     requires i_bound { i < 65535 }
@@ -60,23 +60,7 @@ fn store(table: &[i32], i: usize, hash: u64, slots: &mut [u32]) -> bool
     true
 }
 
-fn differ_in(table: &[i32], count: usize, slots: &mut [u32]) -> bool
-    requires count_in_bounds { 2 * count ≤ length table.now }
-    requires table_value { numbers_right count table.now ≡ true }
-    requires cleared { Cleared count slots.old }
-    requires count_bound { count < 65536 }
-    ensures { result ≡ within true 1 count table.now }
-{
-    let mut i = 0;
-    while i < count {
-        if !store(table, i, hash_at(table, i), slots) {
-            return false;
-        }
-        i += 1;
-    }
-    true
-}
-
+// Whether the pairs differ.
 pub fn differ_in_65536(table: &[i32], count: usize) -> bool
     requires count_in_bounds { 2 * count ≤ length table.now }
     requires table_value { numbers_right count table.now ≡ true }
@@ -84,5 +68,10 @@ pub fn differ_in_65536(table: &[i32], count: usize) -> bool
     ensures { result ≡ within true 1 count table.now }
 {
     let mut slots = [0u32; 65536];
-    differ_in(table, count, &mut slots)
+    for i in 0..count {
+        if !store(table, i, hash_at(table, i), &mut slots) {
+            return false;
+        }
+    }
+    true
 }

@@ -1,7 +1,7 @@
 -- What the bits and the marks say as pairs are inserted.
 use Prim.Native.Nat.{ℕ, ◌+◌, ◌≤◌, ◌<◌}
 use mathlib.Core.Path.{◌≡◌, sym, ◌∙◌, ap, subst}
-use mathlib.Core.Bool.{true}
+use mathlib.Core.Bool.{Bool, true}
 use mathlib.Core.List.{List}
 use mathlib.Core.Logic.{inl, inr, ⊎_elim}
 use native.Mathlib.Omega.{arith}
@@ -14,7 +14,7 @@ use Rattle.table_keys.specs.Keys.{same_at, rank_at}
 use Rattle.table_keys.proofs.Ranks.{rank-one}
 use Rattle.table_filter.specs.Filter.{covers, join, Has}
 use Rattle.table_filter.proofs.Filters.{has_more, has-own}
-use Rattle.table_distinct.specs.Slots.{hash_of, Keyed}
+use Rattle.table_distinct.specs.Slots.{word_at, hash_of, Keyed}
 use Rattle.table_distinct.proofs.Words.{same_word}
 use Rattle.table_sieve.specs.Sieve.{cell_of, mask_of, mark_of, bit_of, set_in, hash_at, marked, Known, Sieved}
 
@@ -29,6 +29,16 @@ hash-same ws i j e = ap hash_of (sym (same_word ws i j e))
 pub marked-same : (ws : List ℤ) (marks : List ℕ) → Keyed ws (marked ws marks)
 unfolding marked
 marked-same ws marks i j e = ap (λ (h : ℕ). covers (get_or marks (mark_of h) 0) (bit_of h)) (hash-same ws i j e)
+
+-- what the code has of a pair's mark, by the hash that it has
+pub marked-is :
+    (ws : List ℤ) (marks : List ℕ) (i : ℕ) {h : ℕ} {b : Bool} → h ≡ hash_of (word_at ws i) → b ≡ covers (get_or marks (mark_of h) 0) (bit_of h) → b ≡ marked ws marks i
+unfolding marked hash_at
+marked-is ws marks i e f = f ∙ ap (λ (h : ℕ). covers (get_or marks (mark_of h) 0) (bit_of h)) e
+
+pub hash-is : (ws : List ℤ) (i : ℕ) {h : ℕ} → h ≡ hash_of (word_at ws i) → h ≡ hash_at ws i
+unfolding hash_at
+hash-is ws i e = e
 
 pub sieved-none : (ws : List ℤ) (marks : List ℕ) → length marks ≡ 12288 → Sieved ws 0 (replicate 32768 0) marks
 sieved-none ws marks h =

@@ -1,11 +1,9 @@
 -- Bits that tell of a pair that it stands nowhere before: where one of its bits was clear, it does not.
-use Rattle.std.specs.Prelude.{ℕ, ◌*◌, ◌/◌, ◌%◌, ◌^◌, ◌≤◌, ◌<◌, ◌≡◌, Bool, true, false, List, ◌⊎◌, ℤ, length, get_or, set}
+use Rattle.std.specs.Prelude.{ℕ, ◌*◌, ◌/◌, ◌%◌, ◌^◌, ◌≤◌, ◌<◌, ◌≡◌, Bool, true, List, ◌⊎◌, ℤ, length, get_or, set}
 use Rattle.std.specs.Int.Bits.{bit_or}
-use Rattle.table_keys.specs.Keys.{rank_at, within}
+use Rattle.table_keys.specs.Keys.{rank_at}
 use Rattle.table_filter.specs.Filter.{covers, join, Has}
 use Rattle.table_distinct.specs.Slots.{word_at, hash_of}
-use Rattle.table_sieve.specs.declared.Found.{Found}
-use Rattle.table_sieve.specs.declared.Found.TheVariants.{Differ, Twice, Nothing}
 
 abbrev pub cell_of : ℕ → ℕ
 cell_of h = h / 131072 % 32768
@@ -39,8 +37,3 @@ pub record Sieved (ws : List ℤ) (i : ℕ) (seen marks : List ℕ) : Type 0 whe
   pub mark-words : length marks ≡ 12288
   pub inserted : (j : ℕ) → j < i → Has seen (cell_of (hash_at ws j)) (mask_of (hash_at ws j))
   pub known : (j : ℕ) → j < i → Known ws marks j
-
-abbrev pub Says : ℕ → List ℤ → Found → Type 0
-Says count ws Differ = within true 1 count ws ≡ true
-Says count ws Twice = within true 1 count ws ≡ false
-Says count ws Nothing = Unit {0}

@@ -2,21 +2,13 @@
 // The others are suspected, and each of them sets a bit among the marks: pairs whose bit is set there are stored in slots.
 #![tactic(auto)]
 
-ghost use Rattle.std.specs.Prelude.{◌≡◌, true, false, ℕ, ◌+◌, ◌*◌, ◌≤◌, ◌<◌, length, get_or};
+ghost use Rattle.std.specs.Prelude.{◌≡◌, true, false, ℕ, ◌*◌, ◌≤◌, ◌<◌, IfSome, length, get_or};
 ghost use Rattle.language.specs.Table.{numbers_right};
 ghost use Rattle.table_keys.specs.Keys.{within};
 ghost use Rattle.table_filter.specs.Filter.{covers, Has};
-ghost use Rattle.table_sieve.specs.Sieve.{cell_of, mask_of, mark_of, bit_of, set_in, Known, Says};
+ghost use Rattle.table_sieve.specs.Sieve.{cell_of, mask_of, mark_of, bit_of, set_in, Known};
 
 use table_distinct::{hash_at, home_of, store, word_at};
-
-// What was found of the pairs: nothing, where the slots had no room.
-#[derive(Clone, Copy)]
-pub enum Found {
-    Differ,
-    Twice,
-    Nothing,
-}
 
 fn cell_of(hash: u64) -> usize
     ensures value { result ≡ cell_of hash }
@@ -45,8 +37,7 @@ fn bit_of(hash: u64) -> u64
     1u64 << (hash / 16 % 64)
 }
 
-fn is_marked(hash: u64, marks: &[u64]) -> bool
-    requires { length marks.now ≡ 12288 }
+fn is_marked(hash: u64, marks: &[u64; 12288]) -> bool
     ensures { result ≡ covers (get_or marks.now (mark_of hash) 0) (bit_of hash) }
 {
     let bit = bit_of(hash);
@@ -54,9 +45,7 @@ fn is_marked(hash: u64, marks: &[u64]) -> bool
 }
 
 // The bits of a pair are set, and where they were set before, it is marked: whether it is.
-fn insert(hash: u64, seen: &mut [u64], marks: &mut [u64]) -> bool
-    requires seen_len { length seen.old ≡ 32768 }
-    requires marks_len { length marks.old ≡ 12288 }
+fn insert(hash: u64, seen: &mut [u64; 32768], marks: &mut [u64; 12288]) -> bool
     ensures seen_after { seen.new ≡ set_in seen.old (cell_of hash) (mask_of hash) }
     ensures marks_after { result ≡ true → marks.new ≡ set_in marks.old (mark_of hash) (bit_of hash) }
     ensures marks_unchanged { result ≡ false → marks.new ≡ marks.old }
@@ -75,61 +64,55 @@ fn insert(hash: u64, seen: &mut [u64], marks: &mut [u64]) -> bool
 }
 
 // Whether a pair is suspected.
-fn sieve(table: &[i32], count: usize, marks: &mut [u64]) -> bool
+fn sieve(table: &[i32], count: usize, marks: &mut [u64; 12288]) -> bool
     requires count_in_bounds { 2 * count ≤ length table.now }
     requires table_value { numbers_right count table.now ≡ true }
-    requires marks_len { length marks.old ≡ 12288 }
     ensures by_index { (j : ℕ) → j < count → Known table.now marks.new j }
     ensures table_value_2 { result ≡ false → within true 1 count table.now ≡ true }
 {
     let mut seen = [0u64; 32768];
     let mut suspected = false;
-    let mut i = 0;
-    while i < count {
+    for i in 0..count {
         if insert(hash_at(table, i), &mut seen, marks) {
             suspected = true;
         }
-        i += 1;
     }
     suspected
 }
 
-// What the pairs are whose bits are set among the marks.
-fn settle(table: &[i32], count: usize, marks: &[u64]) -> Found
+// Whether the pairs differ, told by those whose bits are set among the marks: nothing where the slots have no room.
+fn settle(table: &[i32], count: usize, marks: &[u64; 12288]) -> Option<bool>
     requires count_in_bounds { 2 * count ≤ length table.now }
     requires table_value { numbers_right count table.now ≡ true }
-    requires marks_len { length marks.now ≡ 12288 }
     requires by_index { (j : ℕ) → j < count → Known table.now marks.now j }
-    ensures { Says count table.now result }
+    ensures { IfSome result (λ differ. differ ≡ within true 1 count table.now) }
 {
     let mut slots = [0u64; 32768];
     let mut kept: usize = 0;
-    let mut i = 0;
-    while i < count {
+    for i in 0..count {
         let hash = hash_at(table, i);
         if is_marked(hash, marks) {
             if kept == 28000 {
-                return Found::Nothing;
+                return None;
             }
             if !store(&mut slots, word_at(table, i), home_of(hash, 32768)) {
-                return Found::Twice;
+                return Some(false);
             }
             kept += 1;
         }
-        i += 1;
     }
-    Found::Differ
+    Some(true)
 }
 
-// Whether the pairs differ. Of 400,000 random pairs some 24,000 are stored in slots.
-pub fn sieved(table: &[i32], count: usize) -> Found
+// Whether the pairs differ, or nothing where the slots have no room. Of 400,000 random pairs some 24,000 are stored in slots.
+pub fn sieved(table: &[i32], count: usize) -> Option<bool>
     requires count_in_bounds { 2 * count ≤ length table.now }
     requires table_value { numbers_right count table.now ≡ true }
-    ensures { Says count table.now result }
+    ensures { IfSome result (λ differ. differ ≡ within true 1 count table.now) }
 {
     let mut marks = [0u64; 12288];
     if !sieve(table, count, &mut marks) {
-        return Found::Differ;
+        return Some(true);
     }
     settle(table, count, &marks)
 }

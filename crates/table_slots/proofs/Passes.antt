@@ -9,10 +9,10 @@ use lib.IntN.{ℤ}
 use lib.Dec.{eqb, ltb}
 use lib.ListN.{length, get_or, set, replicate, length-set, length-map, length-replicate, get_or-map}
 use lib.Seq.{get_or-set_same, get_or-set_other, set_out, map-set_same}
-use borrow.Author.Tests.{ltb-true, ltb-false, eqb-true, eqb-false, eq-eqb}
+use borrow.Author.Tests.{ltb-true, ltb-false, eqb-true, eqb-false, eq-eqb, ne_eqb}
 use Rattle.laws.specs.Lists.{zeros}
 use Rattle.table_keys.specs.Keys.{same_at}
-use Rattle.table_hash.specs.Hashes.{hash_at, class_at, bucket}
+use Rattle.table_hash.specs.Hashes.{hash_at, class_of, class_at, bucket}
 use Rattle.table_filter.specs.Filter.{suspected}
 use Rattle.table_slots.specs.Slots.{place_in, number_in, firsts, numbers, slot_at, Passed, EndsEmpty, EndsHeld, Good, wanted, Keyed}
 use Rattle.table_keys.proofs.Ranks.{self, key, counted, counted-key, counted-hit, counted-miss, none_of}
@@ -41,11 +41,8 @@ map-set f (x ∷ l) (suc q) v = ap (λ (m : List ℕ). f x ∷ m) (map-set f l q
 pub first-in : (slots : List ℕ) (q : ℕ) → get_or (firsts slots) q 0 ≡ place_in (get_or slots q 0)
 first-in slots q = get_or-map place_in slots q 0
 
-pub number-of : (slots : List ℕ) (q : ℕ) → get_or (numbers slots) q 0 ≡ number_in (get_or slots q 0)
+number-of : (slots : List ℕ) (q : ℕ) → get_or (numbers slots) q 0 ≡ number_in (get_or slots q 0)
 number-of slots q = get_or-map number_in slots q 0
-
-pub number-room : (v limit : ℕ) → number_in v < limit → limit < 4294967296 → v + 4294967296 < 18446744073709551616
-number-room v limit l h = omega arith
 
 module _ (slots : List ℕ) (q : ℕ) where
   -- a slot is taken for the pair at i
@@ -74,10 +71,10 @@ slot-below : (whole : Bool) (ws : List ℤ) (i : ℕ) → slot_at whole ws i < 2
 slot-below whole ws i = bucket-below 27904 (hash_at whole ws i) (omega arith)
 
 -- a search ends within the slots
-pub empty-below : (whole : Bool) (ws : List ℤ) (i : ℕ) (first : List ℕ) {q : ℕ} → EndsEmpty (same_at whole ws i) (slot_at whole ws i) first q → q < 28160
+empty-below : (whole : Bool) (ws : List ℤ) (i : ℕ) (first : List ℕ) {q : ℕ} → EndsEmpty (same_at whole ws i) (slot_at whole ws i) first q → q < 28160
 empty-below whole ws i first r = omega (arith, r.there, r.within, slot-below whole ws i)
 
-pub held_below : (whole : Bool) (ws : List ℤ) (i : ℕ) (first : List ℕ) {q : ℕ} → EndsHeld (same_at whole ws i) (slot_at whole ws i) first q → q < 28160
+held_below : (whole : Bool) (ws : List ℤ) (i : ℕ) (first : List ℕ) {q : ℕ} → EndsHeld (same_at whole ws i) (slot_at whole ws i) first q → q < 28160
 held_below whole ws i first r = omega (arith, r.there, r.within, slot-below whole ws i)
 
 pub wanted-key : (whole : Bool) (ws : List ℤ) (classes class : ℕ) (marks : List ℕ) → Keyed whole ws (wanted whole ws classes class marks)
@@ -90,6 +87,24 @@ pub wanted-of :
     wanted whole ws classes class marks j ≡ true
 unfolding wanted
 wanted-of whole ws classes class marks j s c = ap₂ (λ (a b : Bool). a && b) s (eq-eqb (class_at whole ws classes j) class c)
+
+pub not-suspected : (whole : Bool) (ws : List ℤ) (classes class : ℕ) (marks : List ℕ) (j : ℕ) → suspected whole ws marks j ≡ false → wanted whole ws classes class marks j ≡ false
+unfolding wanted
+not-suspected whole ws classes class marks j e = rw e
+
+-- of a pair that is suspected, by the class that the code has
+module _ (whole : Bool) (ws : List ℤ) (classes class : ℕ) (marks : List ℕ) (j : ℕ) {h c : ℕ} (s : suspected whole ws marks j ≡ true) (hashed : h ≡ hash_at whole ws j)
+    (classed : c ≡ class_of classes h) where
+  own : c ≡ class_at whole ws classes j
+  unfolding class_at
+  own = classed ∙ ap (class_of classes) hashed
+
+  pub other-class : (c ≡ class → ⊥) → wanted whole ws classes class marks j ≡ false
+  unfolding wanted
+  other-class n = ap₂ (λ (a b : Bool). a && b) s (ne_eqb (class_at whole ws classes j) class (λ z. n (own ∙ z)))
+
+  pub same-class : c ≡ class → wanted whole ws classes class marks j ≡ true
+  same-class e = wanted-of whole ws classes class marks j s (sym own ∙ e)
 
 module _ {whole : Bool} {ws : List ℤ} {mine : ℕ → Bool} {i : ℕ} {slots : List ℕ} (keyed : Keyed whole ws mine) (good : Good whole ws mine i slots) where
   abbrev Mine : ℕ → Type 0

@@ -31,14 +31,13 @@ fn number_in(v: u64) -> u64
     v / 4294967296
 }
 
-fn probe(table: &[i32], whole: bool, i: usize, slots: &[u64], slot: usize) -> Slot
+fn probe(table: &[i32], whole: bool, i: usize, slots: &[u64; 28160], slot: usize) -> Slot
     requires i_in_bounds { 2 * i + 1 < length table.now }
-    requires slot_in_bounds { slot + 256 ≤ length slots.now }
+    requires slot_in_bounds { slot + 256 ≤ 28160 }
     requires by_index { (q : ℕ) → 2 * get_or (firsts slots.now) q 0 ≤ length table.now }
     ensures { Probed whole table.now i (firsts slots.now) slot result }
 {
-    let mut t = 0;
-    while t < 256 {
+    for t in 0..256 {
         let f = place_in(slots[slot + t]);
         if f == 0 {
             return Slot::Empty(slot + t);
@@ -46,18 +45,23 @@ fn probe(table: &[i32], whole: bool, i: usize, slots: &[u64], slot: usize) -> Sl
         if same_key(table, whole, i, f - 1) {
             return Slot::Held(slot + t);
         }
-        t += 1;
     }
     Slot::Full
 }
 
 // The pair at `i` is counted: whether its rank is within the limit.
-fn count_pair(table: &[i32], whole: bool, limit: u32, i: usize, h: u64, slots: &mut [u64]) -> bool
+fn count_pair(
+    table: &[i32],
+    whole: bool,
+    limit: u32,
+    i: usize,
+    h: u64,
+    slots: &mut [u64; 28160],
+) -> bool
     requires i_in_bounds { 2 * i + 1 < length table.now }
     requires i_bound { i < 4294967295 }
     requires limit_nonzero { 0 < limit }
     requires h_value { h ≡ hash_at whole table.now i }
-    requires slots_len { length slots.old ≡ 28160 }
     requires by_index { (q : ℕ) → get_or (firsts slots.old) q 0 ≤ i }
     ensures counted { result ≡ true → Counted whole table.now limit i slots.old slots.new }
     ensures too_many { result ≡ false → TooMany whole table.now limit i slots.old }
@@ -88,14 +92,13 @@ fn count_wanted(
     class: u64,
     classes: u64,
     i: usize,
-    marks: &[u64],
-    slots: &mut [u64],
+    marks: &[u64; 4096],
+    slots: &mut [u64; 28160],
 ) -> bool
     requires i_in_bounds { 2 * i + 1 < length table.now }
     requires i_bound { i < 4294967295 }
     requires limit_nonzero { 0 < limit }
     requires classes_bound { classes < 281474976710656 }
-    requires marks_len { length marks.now ≡ 4096 }
     requires good { Good whole table.now (wanted whole table.now classes class marks.now) i slots.old }
     ensures good_2 { result ≡ true → Good whole table.now (wanted whole table.now classes class marks.now) (i + 1) slots.new }
     ensures table_bound { result ≡ true → wanted whole table.now classes class marks.now i ≡ true → rank_at whole i table.now ≤ limit }
@@ -119,23 +122,20 @@ pub fn count_class(
     limit: u32,
     class: u64,
     classes: u64,
-    marks: &[u64],
+    marks: &[u64; 4096],
 ) -> bool
     requires count_in_bounds { 2 * count ≤ length table.now }
     requires count_bound { count ≤ 4294967295 }
     requires limit_nonzero { 0 < limit }
     requires classes_bound { classes < 281474976710656 }
-    requires marks_len { length marks.now ≡ 4096 }
     ensures table_bound { result ≡ true → (j : ℕ) → j < count → wanted whole table.now classes class marks.now j ≡ true → rank_at whole j table.now ≤ limit }
     ensures table_value { result ≡ false → within whole limit count table.now ≡ false }
 {
     let mut slots = [0u64; 28160];
-    let mut i = 0;
-    while i < count {
+    for i in 0..count {
         if !count_wanted(table, whole, limit, class, classes, i, marks, &mut slots) {
             return false;
         }
-        i += 1;
     }
     true
 }
