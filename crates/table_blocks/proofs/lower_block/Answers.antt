@@ -8,7 +8,7 @@ loop-group-init c = record { long = refl; taken = taken_none c.args.places.now c
 pub returns-then-not-lower-clause-overdrawn : goal.returns-then-not-lower-clause-overdrawn
 returns-then-not-lower-clause-overdrawn c =
     λ e. overdrawn-here c.args.places.now c.args.block.now c.loop-group.group-index c.from.result (omega arith) c.from.ensures c.args.lefts.now c.loop-group.lefts
-        c.loop-group.invariant.taken (c.lower.ensures.exhausted c.if-not-lower.true)
+    c.loop-group.invariant.taken (c.lower.ensures.exhausted c.if-not-lower.true)
 
 pub loop-group-preserved : goal.loop-group-preserved
 loop-group-preserved c =

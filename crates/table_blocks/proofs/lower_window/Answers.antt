@@ -17,9 +17,9 @@ returns-then-not-lower_block-clause-fact c =
     let first = c.natural_at-first in
     let last = c.natural_at-last in
     λ e. overdrawn-wrong c.args.table.now c.args.places.now r.rising r.places_nonzero first.result (last.result - first.result) first.ensures.value
-        (omega (arith, first.ensures.value, last.ensures.value, first-last c.args.places.now r.rising r.places_nonzero))
-        c.loop-i.i c.block_end-to.result (take c.gather-n.result c.gather-n.new.block) c.loop-i.lefts c.gather-n.ensures.gathered c.loop-i.invariant.are
-        c.args.count c.block_end-to.ensures.upper_bound r.count_in_bounds (c.lower_block.ensures.overdrawn c.if-not-lower_block.true)
+    (omega (arith, first.ensures.value, last.ensures.value, first-last c.args.places.now r.rising r.places_nonzero))
+    c.loop-i.i c.block_end-to.result (take c.gather-n.result c.gather-n.new.block) c.loop-i.lefts c.gather-n.ensures.gathered c.loop-i.invariant.are
+    c.args.count c.block_end-to.ensures.upper_bound r.count_in_bounds (c.lower_block.ensures.overdrawn c.if-not-lower_block.true)
 
 pub loop-i-preserved : goal.loop-i-preserved
 loop-i-preserved c =
