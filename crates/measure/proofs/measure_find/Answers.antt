@@ -1,9 +1,11 @@
 -- The search's place as a number.
-use Rattle.measure.proofs.Found.{present, absent}
+use Rattle.std.proofs.Common.{ap, ◌∙◌}
+use Rattle.std.proofs.Math.Facts.{to_z-of_z}
+use Rattle.std.specs.Option.{unwrap_or}
+use Rattle.measure.proofs.Found.{placed-unwrap_or}
 use Rattle.measure.proofs.measure_find.Goals as goal
 
-pub returns-in_default : goal.returns-in_default
-returns-in_default c = absent c.ranges.group c.ranges.member c.args.count c.args.table.now c.place_of.ensures c.in_default.is
-
 pub returns : goal.returns
-returns c = present c.ranges.group c.ranges.member c.args.count c.args.table.now c.place_of.ensures c.in-At.is
+returns c =
+    let k = c.args.count in
+    rw (to_z-of_z c.ranges.group, to_z-of_z c.ranges.member) at (c.unwrap_or.ensures ∙ ap (λ o. unwrap_or o k) c.place_of.ensures ∙ placed-unwrap_or k _)
