@@ -9,7 +9,7 @@ use lib.Dec.{T}
 use lib.IntN.{ℤ, pos, negsuc, nat_abs}
 use lib.Signed.{mag, non_neg}
 use mir.Val.{Fits, of_z, to_z}
-use mir.Syntax.{w32, w64}
+use mir.Syntax.{w32}
 use Rattle.language.specs.Basics.{eq_z}
 use Rattle.language.specs.Table.{at_least_one}
 use Rattle.laws.specs.Tests.{both, eq_z-true, eq_z-refl}
@@ -33,11 +33,8 @@ module _ (z : ℤ) (h : mag z < 2147483648) (e : at_least_one z ≡ true) where
   pub cast-word : T (non_neg (to_z w32 (of_z w32 z))) × Fits w32 (nat_abs (to_z w32 (of_z w32 z)))
   cast-word = let n = whole-number z h e in rw (back z h) (n.0, record { fits = omega (arith, n.1) })
 
-  pub cast-on : Fits w64 (nat_abs (to_z w32 (of_z w32 z)))
-  cast-on = let n = whole-number z h e in rw (back z h) record { fits = omega (arith, n.1) }
-
-  pub cast-back : (nat_abs (to_z w32 (of_z w32 z)) ≡ nat_abs z) × (nat_abs (to_z w32 (of_z w32 z)) < 2147483648)
-  cast-back = rw (back z h) (refl, (whole-number z h e).1)
+  pub cast-below : nat_abs (to_z w32 (of_z w32 z)) < 2147483648
+  cast-below = rw (back z h) (whole-number z h e).1
 
 module _ (ws : List ℤ) (i : ℕ) (n : numbers_at ws i ≡ true) where
   pub group-least : at_least_one (group_at i ws) ≡ true

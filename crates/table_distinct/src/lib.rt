@@ -43,6 +43,7 @@ pub fn hash_at(table: &[i32], i: usize) -> u64
 }
 
 // The slot from which a pair with the hash is sought, of `size`.
+#[tactic(auto, unfolding(crate::specs::Slots::slot_of))]
 pub fn home_of(hash: u64, size: usize) -> usize
     requires size_nonzero { 0 < size }
     requires size_bound { size < 4294967296 }

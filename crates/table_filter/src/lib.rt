@@ -83,7 +83,7 @@ pub fn clear_marks(marks: &mut [u64; 4096])
     marks.fill(0);
 }
 
-// The pairs of a class that are not suspected have a key that no pair before them has.
+// The pairs of a class that are not suspected have a key that no pair before them has. `whole` as in `hash` of table_hash.
 pub fn insert_all(
     table: &[i32],
     count: usize,

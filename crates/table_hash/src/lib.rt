@@ -33,6 +33,8 @@ fn mixed(h: u64) -> u64
     (a ^ (a / 65536)) % 4294967296 * 3266489909
 }
 
+// `whole` is true at every call today, and stays: the size of a group is the same rule with false (`groups-within` of table_test), and a must-fail edit of
+// table_once takes the group alone for the key.
 pub fn hash(table: &[i32], whole: bool, i: usize) -> u64
     requires { 2 * i + 1 < length table.now }
     ensures { result ≡ hash_at whole table.now i }
@@ -44,6 +46,7 @@ pub fn hash(table: &[i32], whole: bool, i: usize) -> u64
     mixed(combined(group, 0))
 }
 
+#[tactic(auto, unfolding(crate::specs::Hashes::class_of))]
 pub fn class_of(hash: u64, classes: u64) -> u64
     requires { classes < 281474976710656 }
     ensures { result ≡ class_of classes hash }
@@ -51,6 +54,7 @@ pub fn class_of(hash: u64, classes: u64) -> u64
     hash % 65536 * classes / 65536
 }
 
+#[tactic(auto, unfolding(crate::specs::Hashes::bucket))]
 pub fn bucket_of(buckets: u64, hash: u64) -> usize
     requires buckets_bound { buckets ≤ 4294967296 }
     requires buckets_nonzero { 0 < buckets }

@@ -119,6 +119,13 @@ module _ {key_in : ℕ → ℕ} {key a : ℕ} {slots : List ℕ} where
         others = one_more p.reached u some (λ x. key_in (get_or slots x 0) ≡ key → ⊥) p.others n;
       }
 
+  -- and what is left of the slots falls, where the code has the next slot as y
+  pub passed_on : {q y : ℕ} → Passed key_in key a slots q → Used slots q → (key_in (get_or slots q 0) ≡ key → ⊥) → 0 < room slots → next (length slots) q ≡ y →
+      Passed key_in key a slots y × (length slots - steps slots a y < length slots - steps slots a q)
+  passed_on {q} p u n some e =
+      subst (λ (x : ℕ). Passed key_in key a slots x × (length slots - steps slots a x < length slots - steps slots a q)) e
+      (passed-next p u n some, steps-less p.reached u some)
+
 -- ---- what slots keep
 
 module _ {key_in home_of : ℕ → ℕ} where

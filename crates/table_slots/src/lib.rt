@@ -114,7 +114,7 @@ fn count_wanted(
     count_pair(table, whole, limit, i, h, slots)
 }
 
-// Whether the suspected pairs of one class have ranks within the limit.
+// Whether the suspected pairs of one class have ranks within the limit. `whole` as in `hash` of table_hash.
 pub fn count_class(
     table: &[i32],
     count: usize,
