@@ -8,7 +8,7 @@ use native.Mathlib.Omega.{arith}
 use borrow.Author.Tests.{eq-eqb, ne_eqb}
 use lib.Dec.{eqb}
 use lib.IntN.{ℤ, pos}
-use lib.ListN.{length, take, get_or}
+use lib.ListN.{length, take, drop, get_or, take-append-drop}
 use lib.Seq.{take-suc}
 use lib.Signed.{mag}
 use mir.Val.{of_z}
@@ -33,11 +33,15 @@ zero_more j ws h =
     ap all_zero (take-suc ws j (pos 0) h) ∙ zero-append (take j ws) (get_or ws j (pos 0) ∷ []) ∙ ap (all_zero (take j ws) &&◌) (and-true (eq_z (get_or ws j (pos 0)) (pos 0)))
 
 -- a block, and what is after it
-pub zero-passed : (ws block rest : List ℤ) → ws ≡ block ++ rest → all_zero block ≡ true → all_zero ws ≡ all_zero rest
-zero-passed ws block rest p e = ap all_zero p ∙ zero-append block rest ∙ ap (◌&& all_zero rest) e
+module _ (n : ℕ) (ws block after : List ℤ) (first : block ≡ take n ws) (last : after ≡ drop n ws) where
+  parts : all_zero ws ≡ (all_zero block && all_zero after)
+  parts = ap all_zero (sym (take-append-drop n ws)) ∙ zero-append (take n ws) (drop n ws) ∙ rw (first, last)
 
-pub zero-broken : (ws block rest : List ℤ) → ws ≡ block ++ rest → all_zero block ≡ false → all_zero ws ≡ false
-zero-broken ws block rest p e = ap all_zero p ∙ zero-append block rest ∙ ap (◌&& all_zero rest) e
+  pub zero-passed : all_zero block ≡ true → all_zero ws ≡ all_zero after
+  zero-passed e = parts ∙ ap (◌&& all_zero after) e
+
+  pub zero-broken : all_zero block ≡ false → all_zero ws ≡ false
+  zero-broken e = parts ∙ ap (◌&& all_zero after) e
 
 -- whether a word is 0, as the machine tests it
 pub zero-cell : (z : ℤ) → mag z < 2147483648 → eqb (of_z w32 z) 0 ≡ eq_z z (pos 0)
