@@ -14,10 +14,7 @@ use table_test::table_and_list_right;
 pub fn measure_right(table: &[i32], count: usize, limit: u32, groups: &[i32]) -> bool
     ensures { result ≡ (list_fits (table_of table.now count) groups.now && (right limit (table_of table.now count) && list_right (table_of table.now count) groups.now)) }
 {
-    if groups.len() < 2 * (table.len() / 2) {
-        return false;
-    }
-    table_and_list_right(table, count, limit, groups)
+    2 * (table.len() / 2) <= groups.len() && table_and_list_right(table, count, limit, groups)
 }
 
 // The place of a pair among the first `count`, and `count` where it is not there.

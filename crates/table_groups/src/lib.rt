@@ -34,7 +34,8 @@ fn word_at(groups: &[i32], i: usize) -> u32
 }
 
 // How many places have a group of at most `bound`, found by halves. A group has 32 bits, so that with the largest bound these are all places
-// in use.
+// in use. `partition_point` over `as_chunks` is no plainer: it may ask its test of any pair, so that each group would be cast where nothing
+// says that it is not negative, and what the list says would be proved again of a list of pairs.
 fn groups_within(groups: &[i32], places: usize, bound: u32) -> usize
     requires { HasListing places groups.now }
     ensures place { (ps : List ℕ) (past : List ℤ) → Listing places ps past groups.now → result ≡ place_in (suc bound) ps }
@@ -91,7 +92,7 @@ fn first_unused(groups: &[i32], places: usize) -> usize
     requires { HasListing places groups.now }
     ensures { (ps : List ℕ) (past : List ℤ) → Listing places ps past groups.now → result ≡ length ps / 2 }
 {
-    groups_within(groups, places, 4294967295)
+    groups_within(groups, places, u32::MAX)
 }
 
 // One member more of the group.

@@ -5,20 +5,20 @@ use Rattle.std.proofs.lemmas.Bool.{le-leb, lt-leb}
 use Rattle.language.specs.Groups.{list_words, list_fits}
 use Rattle.measure.proofs.measure_right.Goals as goal
 
-refused : (a b : Bool) → a ≡ false → false ≡ (a && b)
-refused a b e = sym (ap (λ (x : Bool). x && b) e)
+refused : (a b : Bool) → a ≡ false → a ≡ (a && b)
+refused a b e = e ∙ sym (ap (λ (x : Bool). x && b) e)
 
 judged : (a b : Bool) {r : Bool} → a ≡ true → r ≡ b → r ≡ (a && b)
 judged a b e f = f ∙ sym (ap (λ (x : Bool). x && b) e)
 
-pub returns-then-groups-table : goal.returns-then-groups-table
+pub returns-else-table-groups : goal.returns-else-table-groups
 unfolding list_fits list_words
-returns-then-groups-table c = refused _ _ (lt-leb _ _ c.if-groups-table.true)
+returns-else-table-groups c = refused _ _ (lt-leb _ _ c.if-table-groups.false)
 
 pub table_and_list_right-requires : goal.table_and_list_right-requires
 unfolding list_words
 table_and_list_right-requires c = grind arith
 
-pub returns : goal.returns
+pub returns-then-table-groups : goal.returns-then-table-groups
 unfolding list_fits list_words
-returns c = judged _ _ (le-leb _ _ c.if-groups-table.false) c.table_and_list_right.ensures
+returns-then-table-groups c = judged _ _ (le-leb _ _ c.if-table-groups.true) c.table_and_list_right.ensures
