@@ -1,6 +1,6 @@
 -- Blocks of groups: one group more at the end.
 use Rattle.std.proofs.Common.{◌≡◌, ℕ, zero, suc, ◌+◌, ◌-◌, ◌*◌, ◌<◌, ◌≤◌, Bool, true, false, ltb, leb, List, [], ◌∷◌, ◌++◌, length, get_or, take, set, ℤ, pos, nat_abs, sym, refl, ap, ◌∙◌, arith, take-suc, take-suc-set, ltb-false, ltb-true, leb-false, leb-true}
-use lib.Seq.{take-set-le}
+use lib.Seq.{take-length, take-set-le}
 use Rattle.language.specs.Table.{members}
 use Rattle.laws.specs.Tables.{group_at, members-next}
 use Rattle.table_places.specs.Places.{Natural, group_in, places_in, Rising}
@@ -63,14 +63,14 @@ module _ (l : List ℤ) (block : List ℕ) (j x : ℕ) (there : j < length block
   pub taken_more : (after : List ℕ) → Lowered l x now after → Taken l (take (suc j) block) lefts after
   taken_more after lowered p b = omega (arith, next (group_in l p), so_far p b, lowered p b)
 
-  pub overdrawn-here : (n : ℕ) → j < n → n ≤ length block → Exhausted l x now → Overdrawn l (take n block) lefts
-  overdrawn-here n b h none =
+  pub overdrawn-here : Exhausted l x now → Overdrawn l block lefts
+  overdrawn-here none =
       let p = none.place in
       let g = group_in l p in
       record {
         place = p;
         within = none.within;
-        more = omega (arith, none.none, so_far p none.within, next g, once-same {g = g} {x = x} (sym none.here), times-rise g block (suc j) n b h);
+        more = omega (arith, none.none, so_far p none.within, next g, once-same {g = g} {x = x} (sym none.here), times-rise g block (suc j) (length block) there (omega arith), ap (times g) (take-length block));
       }
 
 -- ---- a window

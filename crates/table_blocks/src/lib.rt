@@ -33,41 +33,29 @@ fn gather(table: &[i32], from: usize, to: usize, first: u32, span: u32, block: &
     ensures gathered { Gathered table.now from to first span (take result block.new) }
 {
     let mut n: usize = 0;
-    let mut i = from;
-    while i < to {
+    for i in from..to {
         let group = natural_at(table, 2 * i) as u32;
         block[n] = group;
         if between(first, span, group) {
             n += 1;
         }
-        i += 1;
     }
     n
 }
 
-fn large(word: u32) -> u64
-    ensures value { result ≡ word }
-    ensures upper_bound { result < 4294967296 }
-{
-    word as u64
-}
-
-// Each of the first `n` groups of a block takes one from what is left of its number: false where nothing is left.
-fn lower_block(block: &[u32], n: usize, places: &[i32], slots: &[u16], lefts: &mut [u32]) -> bool
-    requires n_in_bounds { n ≤ length block.now }
+// Each group of a block takes one from what is left of its number: false where nothing is left.
+fn lower_block(block: &[u32], places: &[i32], slots: &[u16], lefts: &mut [u32]) -> bool
     requires rising { Rising (places_in places.now) places.now }
     requires slots_len_bound { length slots.now ≤ 4294967296 }
     requires indexed { Indexed places.now (places_in places.now) slots.now }
     requires places_in_bounds { places_in places.now ≤ length lefts.old }
-    ensures taken { result ≡ true → Taken places.now (take n block.now) lefts.old lefts.new }
-    ensures overdrawn { result ≡ false → Overdrawn places.now (take n block.now) lefts.old }
+    ensures taken { result ≡ true → Taken places.now block.now lefts.old lefts.new }
+    ensures overdrawn { result ≡ false → Overdrawn places.now block.now lefts.old }
 {
-    let mut j = 0;
-    while j < n {
-        if !lower(places, slots, lefts, large(block[j])) {
+    for &group in block {
+        if !lower(places, slots, lefts, u64::from(group)) {
             return false;
         }
-        j += 1;
     }
     true
 }
@@ -113,7 +101,7 @@ pub fn lower_window(
     while i < count {
         let to = block_end(i, count);
         let n = gather(table, i, to, first, span, &mut block);
-        if !lower_block(&block, n, places, slots, lefts) {
+        if !lower_block(&block[..n], places, slots, lefts) {
             return false;
         }
         i = to;

@@ -1,4 +1,5 @@
 -- What a search for a group finds among the slots of some places.
+use Rattle.std.specs.Prelude.{Some, None}
 use Prim.Native.Nat.{ℕ, suc, ◌+◌, ◌-◌, ◌≤◌, ◌<◌}
 use mathlib.Core.Path.{◌≡◌, refl, sym, ◌∙◌, ap}
 use mathlib.Core.Bool.{Bool, true, false}
@@ -21,11 +22,10 @@ pub some-slots : (slots : List ℕ) → 0 < room slots → 0 < length slots
 some-slots slots h = omega (arith, (some-empty slots h).within)
 
 module _ {ws : List ℤ} {n : ℕ} {slots : List ℕ} (index : Indexed ws n slots) (group : ℕ) {q : ℕ} (p : Passed (key_in ws) group (home_of (length slots) group) slots q) where
-  pub sought-none : get_or slots q 0 ≡ 0 → Sought ws n group 0
+  pub sought-none : get_or slots q 0 ≡ 0 → Sought ws n group None
   sought-none e =
       record {
-        within = omega arith;
-        there = λ l. absurd (omega arith);
+        there = λ k some. let z : ◌≡◌ {A = ℕ} 0 1 = cc in absurd (omega arith);
         none = λ z k l same.
             let h = index.has k l in
             absent index.kept p e h.slot h.used (rw h.there (same_key k same));
@@ -34,9 +34,12 @@ module _ {ws : List ℤ} {n : ℕ} {slots : List ℕ} (index : Indexed ws n slot
       same_key : (k : ℕ) → group_in ws k ≡ group → group_in ws (suc k - 1) ≡ group
       same_key k e = let z : suc k - 1 ≡ k = omega arith in rw z e
 
-  pub sought-there : {x : ℕ} → get_or slots q 0 ≡ x → (x ≡ 0 → ⊥) → group_in ws (x - 1) ≡ group → Sought ws n group x
+  pub sought-there : {x : ℕ} → get_or slots q 0 ≡ x → (x ≡ 0 → ⊥) → group_in ws (x - 1) ≡ group → Sought ws n group (Some (x - 1))
   sought-there {x} e u same =
-      record { within = rw e at (index.low q); there = λ l. same; none = λ z. absurd (u z) }
+      record {
+        there = λ k some. let z : x - 1 ≡ k = cc in (omega (arith, rw e at (index.low q)), rw z at same);
+        none = λ none. let z : ◌≡◌ {A = ℕ} 0 1 = cc in absurd (omega arith);
+      }
 
 -- ---- one place more
 

@@ -1,5 +1,5 @@
 -- The groups of some places in slots: what stands in them, and what a search for a group comes to.
-use Rattle.std.specs.Prelude.{ℕ, suc, ◌+◌, ◌*◌, ◌-◌, ◌/◌, ◌%◌, ◌≤◌, ◌<◌, ◌≡◌, List, ℤ, length, get_or}
+use Rattle.std.specs.Prelude.{ℕ, suc, ◌+◌, ◌*◌, ◌-◌, ◌/◌, ◌%◌, ◌≤◌, ◌<◌, ◌≡◌, List, ℤ, length, get_or, Option, Some, None}
 use Rattle.std.specs.Int.Bits.{bit_xor}
 use Rattle.table_places.specs.Places.{group_in}
 use Rattle.table_probes.specs.Room.{room}
@@ -21,8 +21,7 @@ pub record Indexed (ws : List ℤ) (n : ℕ) (slots : List ℕ) : Type 0 where
   pub low : (q : ℕ) → get_or slots q 0 ≤ n
   pub has : (p : ℕ) → p < n → Has slots (suc p)
 
--- the number of the place with the group, or 0 where none of n has it
-pub record Sought (ws : List ℤ) (n group r : ℕ) : Type 0 where
-  pub within : r ≤ n
-  pub there : 0 < r → group_in ws (r - 1) ≡ group
-  pub none : r ≡ 0 → (p : ℕ) → p < n → group_in ws p ≡ group → ⊥
+-- the place with the group, or nothing where none of n has it
+pub record Sought (ws : List ℤ) (n group : ℕ) (r : Option ℕ) : Type 0 where
+  pub there : (p : ℕ) → r ≡ Some p → (p < n) × (group_in ws p ≡ group)
+  pub none : r ≡ None → (p : ℕ) → p < n → group_in ws p ≡ group → ⊥

@@ -11,12 +11,6 @@ ghost use Rattle.table_index.specs.Index.{home_of, Indexed, Sought};
 
 use table_places::natural_at;
 
-fn wide(word: u16) -> usize
-    ensures { result ≡ word }
-{
-    word as usize
-}
-
 // The product spreads groups that follow each other. Without the first step it would leave some groups at equal distances close together.
 fn home(size: usize, group: u64) -> usize
     requires size_nonzero { 0 < size }
@@ -46,15 +40,15 @@ fn vacant(slots: &[u16], group: u64) -> usize
 {
     let mut q = home(slots.len(), group);
     loop {
-        if wide(slots[q]) == 0 {
+        if slots[q] == 0 {
             return q;
         }
         q = next(slots.len(), q);
     }
 }
 
-// The number of the place with the group, from 1, or 0 where there is none.
-pub fn seek(places: &[i32], slots: &[u16], group: u64) -> usize
+// The place with the group, if there is one. The number in a slot is one more than the place, which is 0 where the slot is empty.
+pub fn seek(places: &[i32], slots: &[u16], group: u64) -> Option<usize>
     requires slots_len_bound { length slots.now ≤ 4294967296 }
     requires group_bound { group < 4294967296 }
     requires rising { Rising (places_in places.now) places.now }
@@ -63,12 +57,12 @@ pub fn seek(places: &[i32], slots: &[u16], group: u64) -> usize
 {
     let mut q = home(slots.len(), group);
     loop {
-        let x = wide(slots[q]);
-        if x == 0 {
-            return 0;
+        let number = usize::from(slots[q]);
+        if number == 0 {
+            return None;
         }
-        if natural_at(places, 2 * (x - 1)) == group {
-            return x;
+        if natural_at(places, 2 * (number - 1)) == group {
+            return Some(number - 1);
         }
         q = next(slots.len(), q);
     }
@@ -99,10 +93,8 @@ pub fn fill(places: &[i32], slots: &mut [u16], lefts: &mut [u32])
     ensures indexed { Indexed places.now (places_in places.now) slots.new }
     ensures by_index { (p : ℕ) → p < places_in places.now → get_or lefts.new p 0 ≡ number_in places.now p }
 {
-    let mut k = 0;
-    while k < places.len() / 2 {
+    for k in 0..places.len() / 2 {
         enter(places, k, slots);
         lefts[k] = natural_at(places, 2 * k + 1) as u32;
-        k += 1;
     }
 }

@@ -1,13 +1,14 @@
 -- What is left of the numbers, after one pair more.
-use Prim.Native.Nat.{ℕ, suc, ◌+◌, ◌*◌, ◌≤◌, ◌<◌}
+use Prim.Native.Nat.{ℕ, suc, ◌+◌, ◌-◌, ◌*◌, ◌≤◌, ◌<◌}
 use mathlib.Core.Path.{◌≡◌, refl, sym, ◌∙◌, ap}
 use mathlib.Core.Bool.{Bool, true, false, cond}
 use mathlib.Core.List.{List}
+use Rattle.std.proofs.Common.{get_or-set_same, get_or-set_other}
 use native.Mathlib.Omega.{arith}
-use borrow.Author.Tests.{eqb-true, eqb-false, eq-eqb, ne_eqb}
-use lib.Dec.{eqb}
+use borrow.Author.Tests.{ltb-true, ltb-false, eqb-true, eqb-false, eq-eqb, ne_eqb}
+use lib.Dec.{eqb, ltb}
 use lib.IntN.{ℤ, pos, nat_abs}
-use lib.ListN.{length, get_or}
+use lib.ListN.{length, get_or, set}
 use Rattle.language.specs.Basics.{eq_z}
 use Rattle.laws.specs.Tests.{eq_z-refl, ne-eq_z}
 use Rattle.laws.specs.Tables.{group_at, counts, members-zero, members-next}
@@ -21,6 +22,34 @@ once-same {g} {x} e = rw (eq-eqb x g e)
 
 pub once-other : {g x : ℕ} → (x ≡ g → ⊥) → once g x ≡ 0
 once-other {g} {x} h = rw (ne_eqb x g h)
+
+-- ---- one place
+
+same-place : {l : List ℤ} {n : ℕ} → Rising n l → (p q : ℕ) → p < n → q < n → group_in l p ≡ group_in l q → p ≡ q
+same-place {l} {n} rising p q bp bq e = go (ltb p q) (ltb q p) refl refl
+  where
+    go : (s t : Bool) → ltb p q ≡ s → ltb q p ≡ t → p ≡ q
+    go true t u v = absurd (omega (arith, rising.rises p q (ltb-true p q u) bq))
+    go false true u v = absurd (omega (arith, rising.rises q p (ltb-true q p v) bp))
+    go false false u v = omega (arith, ltb-false p q u, ltb-false q p v)
+
+-- one is taken at the place of the group
+pub lowered-there :
+    (l : List ℤ) → Rising (places_in l) l → (place group : ℕ) (lefts : List ℕ) → place < length lefts → place < places_in l → group_in l place ≡ group →
+    (get_or lefts place 0 ≡ 0 → ⊥) → Lowered l group lefts (set lefts place (get_or lefts place 0 - 1))
+lowered-there l rising place group lefts long within here some p b = go (eqb p place) refl
+  where
+    v : ℕ
+    v = get_or lefts place 0 - 1
+
+    go : (t : Bool) → eqb p place ≡ t → get_or (set lefts place v) p 0 + once (group_in l p) group ≡ get_or lefts p 0
+    go true t =
+        let z = eqb-true p place t in
+        rw z (omega (arith, get_or-set_same lefts place v 0 long, some, once-same {g = group_in l place} {x = group} (sym here)))
+    go false t =
+        let n = eqb-false p place t in
+        let other = once-other {g = group_in l p} {x = group} (λ e. n (same-place rising p place b within (sym e ∙ sym here))) in
+        omega (arith, get_or-set_other lefts place p v 0 n, other)
 
 -- ---- all places
 

@@ -23,15 +23,13 @@ pub fn lower(places: &[i32], slots: &[u16], lefts: &mut [u32], group: u64) -> bo
     ensures lowered { result ≡ true → Lowered places.now group lefts.old lefts.new }
     ensures exhausted { result ≡ false → Exhausted places.now group lefts.old }
 {
-    let x = seek(places, slots, group);
-    if x == 0 {
+    let Some(place) = seek(places, slots, group) else {
         return true;
-    }
-    let left = lefts[x - 1];
-    if left == 0 {
+    };
+    if lefts[place] == 0 {
         return false;
     }
-    lefts[x - 1] = left - 1;
+    lefts[place] -= 1;
     true
 }
 
@@ -53,12 +51,10 @@ pub fn lower_all(
     ensures lefts_are_2 { result ≡ true → LeftsAre table.now count places.now lefts.new }
     ensures fact { result ≡ false → Tallied table.now count places.now (places_in places.now) → ⊥ }
 {
-    let mut i = 0;
-    while i < count {
+    for i in 0..count {
         if !lower(places, slots, lefts, natural_at(table, 2 * i)) {
             return false;
         }
-        i += 1;
     }
     true
 }
@@ -71,12 +67,10 @@ pub fn none_left(lefts: &[u32], n: usize) -> bool
     ensures some_left { result ≡ false → SomeLeft lefts.now n }
 {
     let mut others: u32 = 0;
-    let mut p = 0;
-    while p < n {
-        if lefts[p] != 0 {
+    for &left in &lefts[..n] {
+        if left != 0 {
             others += 1;
         }
-        p += 1;
     }
     others == 0
 }

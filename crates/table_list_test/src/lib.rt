@@ -8,48 +8,10 @@ ghost use Rattle.table_pairs.specs.Outcomes.{table_of};
 ghost use Rattle.table_places.specs.Places.{places_in, Rising};
 ghost use Rattle.table_lefts.specs.Lefts.{TalliedIs};
 
-use table_lefts::exact_in;
 use table_places::read_places;
-use table_windows::exact_windows;
+use table_windows::{exact_in_room, exact_windows};
 
-// Four slots for each place that there may be. Slots are cleared first, so that a short list takes few.
-fn exact_256(table: &[i32], count: usize, places: &[i32]) -> bool
-    requires count_in_bounds { 2 * count ≤ length table.now }
-    requires table_value { numbers_right count table.now ≡ true }
-    requires rising { Rising (places_in places.now) places.now }
-    requires places_bound { places_in places.now ≤ 256 }
-    ensures { TalliedIs result table.now count places.now }
-{
-    let mut slots = [0u16; 1024];
-    let mut lefts = [0u32; 256];
-    exact_in(table, count, places, &mut slots, &mut lefts)
-}
-
-fn exact_1024(table: &[i32], count: usize, places: &[i32]) -> bool
-    requires count_in_bounds { 2 * count ≤ length table.now }
-    requires table_value { numbers_right count table.now ≡ true }
-    requires rising { Rising (places_in places.now) places.now }
-    requires places_bound { places_in places.now ≤ 1024 }
-    ensures { TalliedIs result table.now count places.now }
-{
-    let mut slots = [0u16; 4096];
-    let mut lefts = [0u32; 1024];
-    exact_in(table, count, places, &mut slots, &mut lefts)
-}
-
-fn exact_4096(table: &[i32], count: usize, places: &[i32]) -> bool
-    requires count_in_bounds { 2 * count ≤ length table.now }
-    requires table_value { numbers_right count table.now ≡ true }
-    requires rising { Rising (places_in places.now) places.now }
-    requires places_bound { places_in places.now ≤ 4096 }
-    ensures { TalliedIs result table.now count places.now }
-{
-    let mut slots = [0u16; 16384];
-    let mut lefts = [0u32; 4096];
-    exact_in(table, count, places, &mut slots, &mut lefts)
-}
-
-// Whether each number is a full count of its group.
+// Whether each number is a full count of its group, with four slots for each place that there may be.
 fn exact(table: &[i32], count: usize, places: &[i32]) -> bool
     requires count_in_bounds { 2 * count ≤ length table.now }
     requires table_value { numbers_right count table.now ≡ true }
@@ -58,13 +20,13 @@ fn exact(table: &[i32], count: usize, places: &[i32]) -> bool
 {
     let used = places.len() / 2;
     if used <= 256 {
-        return exact_256(table, count, places);
+        return exact_in_room::<256, 1024>(table, count, places, true);
     }
     if used <= 1024 {
-        return exact_1024(table, count, places);
+        return exact_in_room::<1024, 4096>(table, count, places, true);
     }
     if used <= 4096 {
-        return exact_4096(table, count, places);
+        return exact_in_room::<4096, 16384>(table, count, places, true);
     }
     exact_windows(table, count, places, true)
 }
@@ -78,12 +40,8 @@ pub fn list_agrees(table: &[i32], count: usize, limit: u32, groups: &[i32]) -> b
     ensures { result ≡ (groups_within limit (table_of table.now count) count table.now && list_right (table_of table.now count) groups.now) }
 {
     let words = 2 * (table.len() / 2);
-    let read = read_places(&groups[..words], limit, count);
-    match read {
-        Some(used) => {
-            let end = 2 * used;
-            exact(table, count, &groups[..end])
-        }
+    match read_places(&groups[..words], limit, count) {
+        Some(used) => exact(table, count, &groups[..2 * used]),
         None => false,
     }
 }

@@ -1,20 +1,24 @@
 -- Reading a list, one place more.
 use Rattle.std.specs.Prelude.{Some, None}
 use Prim.Native.Nat.{ℕ, suc, ◌+◌, ◌*◌, ◌-◌, ◌≤◌, ◌<◌}
-use mathlib.Core.Path.{◌≡◌, refl, ◌∙◌, ap}
+use mathlib.Core.Path.{◌≡◌, refl, ◌∙◌, ap, ap₂}
 use mathlib.Core.Bool.{Bool, true, false, not, ◌&&◌, and-false}
 use mathlib.Core.List.{List, [], ◌∷◌}
 use native.Mathlib.Omega.{arith}
-use borrow.Author.Tests.{ltb-true, ltb-false, lt-ltb, leb-true, le-leb, eqb-true, eq-eqb, ne_eqb, not-true, not-false}
+use borrow.Author.Tests.{ltb-true, ltb-false, lt-ltb, le-ltb, leb-true, le-leb, eqb-true, eq-eqb, ne_eqb, not-true, not-false}
 use lib.Dec.{eqb, leb, ltb}
 use lib.IntN.{ℤ, pos, nat_abs}
 use lib.ListN.{length, drop, length-drop}
 use lib.Seq.{drop-cons}
+use lib.Signed.{mag}
+use mir.Val.{of_z, to_z}
+use mir.Syntax.{w32}
 use Rattle.laws.specs.Lists.{twice-suc}
 use Rattle.laws.specs.Tests.{both}
 use Rattle.laws.specs.Tables.{group_at, member_at}
 use Rattle.language.specs.Basics.{eq_z}
 use Rattle.language.specs.Table.{at_least_one}
+use Rattle.table_search.proofs.Signed.{back}
 use Rattle.table_places.specs.Places.{Natural, all_zero, stands_at, place_fits, ended, read_places}
 use Rattle.table_places.proofs.Naturals.{from_one, natural-one}
 use Rattle.table_places.specs.Places.{Places}
@@ -30,6 +34,18 @@ unfolding stands_at
 stands-true k ws e =
     let b = both (ltb (2 * k + 1) (length ws)) (not (eq_z (group_at k ws) (pos 0))) e in
     (ltb-true (2 * k + 1) (length ws) b.0, not-true (eq_z (group_at k ws) (pos 0)) b.1)
+
+pub stands-here : (k : ℕ) (ws : List ℤ) → 2 * k + 1 < length ws → eq_z (group_at k ws) (pos 0) ≡ false → stands_at k ws ≡ true
+unfolding stands_at
+stands-here k ws h e = rw (lt-ltb (2 * k + 1) (length ws) h, e)
+
+pub stands-not : (k : ℕ) (ws : List ℤ) → eq_z (group_at k ws) (pos 0) ≡ true → stands_at k ws ≡ false
+unfolding stands_at
+stands-not k ws e = rw (e, and-false (ltb (2 * k + 1) (length ws)))
+
+pub stands-past : (k : ℕ) (ws : List ℤ) → length ws ≤ 2 * k + 1 → stands_at k ws ≡ false
+unfolding stands_at
+stands-past k ws h = rw (le-ltb (2 * k + 1) (length ws) h)
 
 -- ---- one step
 
@@ -85,6 +101,12 @@ module _ (limit last left k : ℕ) where
       read_next f =
           let (l, n) = stands-true k ws there in
           rw (drop-place k ws l) (at_place (group_at k ws) (member_at k ws) (drop (2 * suc k) ws) n f)
+
+-- a place that the code has read
+module _ (limit last left : ℕ) {r : Bool} {x y a b : ℤ} (is : r ≡ place_fits limit last left (to_z w32 (of_z w32 x)) (to_z w32 (of_z w32 y))) (group : mag x < 2147483648)
+    (number : mag y < 2147483648) (p : x ≡ a) (q : y ≡ b) where
+  pub fits-word : r ≡ place_fits limit last left a b
+  fits-word = is ∙ ap₂ (place_fits limit last left) (back x group ∙ p) (back y number ∙ q)
 
 -- ---- a place that fits
 

@@ -3,13 +3,18 @@ use Prim.Native.Nat.{ℕ, suc, ◌+◌, ◌<◌}
 use mathlib.Core.Path.{◌≡◌, refl, sym, ◌∙◌, ap}
 use mathlib.Core.Bool.{true, false, ◌&&◌, and-true, and-false, and_assoc}
 use mathlib.Core.List.{List, [], ◌∷◌, ◌++◌}
+use native.Mathlib.Numerals.{add-one}
 use native.Mathlib.Omega.{arith}
-use borrow.Author.Tests.{ne_eqb}
+use borrow.Author.Tests.{eq-eqb, ne_eqb}
 use lib.Dec.{eqb}
 use lib.IntN.{ℤ, pos}
-use lib.ListN.{length, take, drop, get_or, take-append-drop, length-drop}
-use lib.Seq.{take-suc, drop-cons, drop-drop, drop-length, get_or-drop}
+use lib.ListN.{length, take, drop, get_or, take-append-drop}
+use lib.Seq.{take-suc}
+use lib.Signed.{mag}
+use mir.Val.{of_z}
+use mir.Syntax.{w32}
 use Rattle.language.specs.Basics.{eq_z}
+use Rattle.table_search.proofs.Signed.{same_bits}
 use Rattle.table_places.specs.Places.{all_zero}
 
 pub zero-none : all_zero [] ≡ true
@@ -27,30 +32,35 @@ unfolding all_zero
 zero_more j ws h =
     ap all_zero (take-suc ws j (pos 0) h) ∙ zero-append (take j ws) (get_or ws j (pos 0) ∷ []) ∙ ap (all_zero (take j ws) &&◌) (and-true (eq_z (get_or ws j (pos 0)) (pos 0)))
 
--- a block from i on, and what is after it
-pub zero-block : (n i : ℕ) (ws : List ℤ) → all_zero (drop i ws) ≡ (all_zero (take n (drop i ws)) && all_zero (drop (i + n) ws))
-zero-block n i ws =
-    ap all_zero (sym (take-append-drop n (drop i ws))) ∙ zero-append (take n (drop i ws)) (drop n (drop i ws)) ∙
-    ap (λ (l : List ℤ). all_zero (take n (drop i ws)) && all_zero l) (drop-drop n i ws)
+-- a block, and what is after it
+module _ (n : ℕ) (ws block after : List ℤ) (first : block ≡ take n ws) (last : after ≡ drop n ws) where
+  parts : all_zero ws ≡ (all_zero block && all_zero after)
+  parts = ap all_zero (sym (take-append-drop n ws)) ∙ zero-append (take n ws) (drop n ws) ∙ rw (first, last)
 
-pub zero-passed : (n i : ℕ) (ws : List ℤ) → all_zero (take n (drop i ws)) ≡ true → all_zero (drop i ws) ≡ all_zero (drop (i + n) ws)
-zero-passed n i ws e = zero-block n i ws ∙ ap (◌&& all_zero (drop (i + n) ws)) e
+  pub zero-passed : all_zero block ≡ true → all_zero ws ≡ all_zero after
+  zero-passed e = parts ∙ ap (◌&& all_zero after) e
 
--- the word at i
-pub zero-at : (i : ℕ) (ws : List ℤ) → i < length ws → all_zero (drop i ws) ≡ (eq_z (get_or ws i (pos 0)) (pos 0) && all_zero (drop (suc i) ws))
-unfolding all_zero
-zero-at i ws h = ap all_zero (drop-cons ws i (pos 0) h)
+  pub zero-broken : all_zero block ≡ false → all_zero ws ≡ false
+  zero-broken e = parts ∙ ap (◌&& all_zero after) e
 
-pub zero-all : (ws : List ℤ) (i : ℕ) → i ≡ length ws → all_zero (drop i ws) ≡ true
-zero-all ws i e = rw (e, drop-length ws) zero-none
+-- whether a word is 0, as the machine tests it
+pub zero-cell : (z : ℤ) → mag z < 2147483648 → eqb (of_z w32 z) 0 ≡ eq_z z (pos 0)
+zero-cell z h = same_bits z (pos 0) (record { sfits = h }) (record { sfits = omega arith })
 
--- words other than 0 are counted, from i on
-module _ (i j : ℕ) (ws : List ℤ) (h : i + j < length ws) where
-  next : all_zero (take (suc j) (drop i ws)) ≡ (all_zero (take j (drop i ws)) && eq_z (get_or ws (i + j) (pos 0)) (pos 0))
-  next = zero_more j (drop i ws) (rw (length-drop i ws) (omega arith)) ∙ ap (λ (z : ℤ). all_zero (take j (drop i ws)) && eq_z z (pos 0)) (get_or-drop i ws j (pos 0))
+pub zero-word : (z : ℤ) → mag z < 2147483648 → of_z w32 z ≡ 0 → eq_z z (pos 0) ≡ true
+zero-word z h e = sym (zero-cell z h) ∙ eq-eqb (of_z w32 z) 0 e
 
-  pub others-more : {n m : ℕ} → eq_z (get_or ws (i + j) (pos 0)) (pos 0) ≡ false → m ≡ suc n → eqb m 0 ≡ all_zero (take (suc j) (drop i ws))
-  others-more {m} e q = ne_eqb m 0 (λ z. omega arith) ∙ sym (next ∙ ap (all_zero (take j (drop i ws)) &&◌) e ∙ and-false (all_zero (take j (drop i ws))))
+pub other-word : (z : ℤ) → mag z < 2147483648 → (of_z w32 z ≡ 0 → ⊥) → eq_z z (pos 0) ≡ false
+other-word z h e = sym (zero-cell z h) ∙ ne_eqb (of_z w32 z) 0 e
 
-  pub others_same : {n m : ℕ} → eq_z (get_or ws (i + j) (pos 0)) (pos 0) ≡ true → m ≡ n → eqb n 0 ≡ all_zero (take j (drop i ws)) → eqb m 0 ≡ all_zero (take (suc j) (drop i ws))
-  others_same e q r = ap (λ (k : ℕ). eqb k 0) q ∙ r ∙ sym (next ∙ ap (all_zero (take j (drop i ws)) &&◌) e ∙ and-true (all_zero (take j (drop i ws))))
+-- words other than 0 are counted
+module _ (j : ℕ) (ws : List ℤ) (h : j < length ws) (word : mag (get_or ws j (pos 0)) < 2147483648) where
+  next : all_zero (take (j + 1) ws) ≡ (all_zero (take j ws) && eq_z (get_or ws j (pos 0)) (pos 0))
+  next = rw add-one (zero_more j ws h)
+
+  module _ (n m : ℕ) where
+    pub others-more : (of_z w32 (get_or ws j (pos 0)) ≡ 0 → ⊥) → m ≡ n + 1 → eqb m 0 ≡ all_zero (take (j + 1) ws)
+    others-more f q = ne_eqb m 0 (λ z. omega arith) ∙ sym (next ∙ rw (other-word (get_or ws j (pos 0)) word f, and-false (all_zero (take j ws))))
+
+    pub others_same : of_z w32 (get_or ws j (pos 0)) ≡ 0 → m ≡ n → eqb n 0 ≡ all_zero (take j ws) → eqb m 0 ≡ all_zero (take (j + 1) ws)
+    others_same z q r = ap (λ (k : ℕ). eqb k 0) q ∙ r ∙ sym (next ∙ rw (zero-word (get_or ws j (pos 0)) word z, and-true (all_zero (take j ws))))

@@ -14,12 +14,10 @@ fn numbers_right(table: &[i32], count: usize) -> bool
     requires { 2 * count ≤ length table.now }
     ensures { result ≡ numbers_right count table.now }
 {
-    let mut i = 0;
-    while i < count {
+    for i in 0..count {
         if !numbers_fit(group_at(table, i), member_at(table, i)) {
             return false;
         }
-        i += 1;
     }
     true
 }

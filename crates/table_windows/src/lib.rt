@@ -2,7 +2,7 @@
 // over the table of its own.
 #![tactic(auto)]
 
-ghost use Rattle.std.specs.Prelude.{◌≡◌, true, ◌*◌, ◌≤◌, ◌<◌, length, replicate};
+ghost use Rattle.std.specs.Prelude.{◌≡◌, true, false, ◌*◌, ◌≤◌, ◌<◌, length, replicate};
 ghost use Rattle.language.specs.Table.{numbers_right};
 ghost use Rattle.table_places.specs.Places.{places_in, Rising};
 ghost use Rattle.table_lefts.specs.Lefts.{TalliedIs, Roomy};
@@ -23,7 +23,7 @@ fn exact_part(
     requires count_in_bounds { 2 * count ≤ length table.now }
     requires table_value { numbers_right count table.now ≡ true }
     requires rising { Rising (places_in places.now) places.now }
-    requires places_nonzero { 0 < places_in places.now }
+    requires places_nonzero { whole ≡ false → 0 < places_in places.now }
     requires roomy { Roomy (places_in places.now) slots.old lefts.old }
     requires slots_value { slots.old ≡ replicate (length slots.old) 0 }
     ensures { TalliedIs result table.now count places.now }
@@ -38,16 +38,25 @@ fn exact_part(
     none_left(lefts, places.len() / 2)
 }
 
-fn exact_large(table: &[i32], count: usize, places: &[i32], whole: bool) -> bool
+// The same in room for so many places and slots. Slots are cleared first, so that a list takes no more room than it needs.
+pub fn exact_in_room<const PLACES: usize, const SLOTS: usize>(
+    table: &[i32],
+    count: usize,
+    places: &[i32],
+    whole: bool,
+) -> bool
     requires count_in_bounds { 2 * count ≤ length table.now }
     requires table_value { numbers_right count table.now ≡ true }
     requires rising { Rising (places_in places.now) places.now }
-    requires places_nonzero { 0 < places_in places.now }
-    requires places_bound { places_in places.now ≤ 32768 }
+    requires places_nonzero { whole ≡ false → 0 < places_in places.now }
+    requires places_bound { places_in places.now ≤ PLACES }
+    requires places_few { PLACES < 65535 }
+    requires slots_more { PLACES < SLOTS }
+    requires slots_most { SLOTS ≤ 4294967296 }
     ensures { TalliedIs result table.now count places.now }
 {
-    let mut slots = [0u16; 98304];
-    let mut lefts = [0u32; 32768];
+    let mut slots = [0u16; SLOTS];
+    let mut lefts = [0u32; PLACES];
     exact_part(table, count, places, whole, &mut slots, &mut lefts)
 }
 
@@ -72,7 +81,7 @@ pub fn exact_windows(table: &[i32], count: usize, places: &[i32], whole: bool) -
 {
     let used = places.len() / 2;
     if used <= 32768 {
-        return exact_large(table, count, places, whole);
+        return exact_in_room::<32768, 98304>(table, count, places, whole);
     }
     let middle = 2 * first_half(used);
     if !exact_windows(table, count, &places[..middle], false) {
