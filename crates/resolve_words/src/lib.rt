@@ -2,8 +2,9 @@
 // offset in the script.
 #![tactic(auto)]
 
-ghost use Rattle.std.specs.Prelude.{◌≡◌, [], ◌∷◌, ◌/◌, ◌%◌, ◌^◌, ◌<◌, drop, set};
+ghost use Rattle.std.specs.Prelude.{◌≡◌, ◌/◌, ◌%◌, ◌^◌, ◌<◌, drop, set};
 ghost use Rattle.check_symbols.specs.Chains.{Chained};
+ghost use Rattle.laws.specs.Each.{Each};
 ghost use Rattle.resolve_words.specs.Growth.{Grown};
 ghost use Rattle.resolve_words.specs.Visible.{Short, word_in, used_at, Named};
 
@@ -20,37 +21,14 @@ pub fn put(code: &mut [u32], at: usize, w: usize)
     }
 }
 
-pub fn put_two(code: &mut [u32], at: usize, a: usize, b: usize)
-    requires { at < 2 ^ 35 }
-    ensures { Short a → Short b → Grown code.old code.new at (a ∷ b ∷ []) }
-{
-    put(code, at, a);
-    put(code, at + 2, b);
-}
-
-pub fn put_three(code: &mut [u32], at: usize, a: usize, b: usize, c: usize)
-    requires { at < 2 ^ 35 }
-    ensures { Short a → Short b → Short c → Grown code.old code.new at (a ∷ b ∷ c ∷ []) }
-{
-    put(code, at, a);
-    put(code, at + 2, b);
-    put(code, at + 4, c);
-}
-
-pub fn put_four(code: &mut [u32], at: usize, a: usize, b: usize, c: usize, d: usize)
+// So many words, each after the one before it.
+pub fn put_all(code: &mut [u32], at: usize, words: &[usize])
     requires { at < 2 ^ 34 }
-    ensures { Short a → Short b → Short c → Short d → Grown code.old code.new at (a ∷ b ∷ c ∷ d ∷ []) }
+    ensures { Each Short words.now → Grown code.old code.new at words.now }
 {
-    put_two(code, at, a, b);
-    put_two(code, at + 4, c, d);
-}
-
-pub fn put_five(code: &mut [u32], at: usize, a: usize, b: usize, c: usize, d: usize, e: usize)
-    requires { at < 2 ^ 34 }
-    ensures { Short a → Short b → Short c → Short d → Short e → Grown code.old code.new at (a ∷ b ∷ c ∷ d ∷ e ∷ []) }
-{
-    put_two(code, at, a, b);
-    put_three(code, at + 4, c, d, e);
+    for (i, w) in words.iter().enumerate() {
+        put(code, at + 2 * i, *w);
+    }
 }
 
 // The word of a name; 0 where it is not visible.
