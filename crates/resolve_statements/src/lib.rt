@@ -10,7 +10,7 @@ ghost use Rattle.resolve_statements.specs.Emitted.{kn_words, ar_words, if_words,
 use check_fields::word;
 use check_marks::{AD, AR, CL, GO, IF, KN, RM};
 use layout::formal_of;
-use resolve_words::{put, put_five, put_four, put_three, put_two, used};
+use resolve_words::{put, put_all, used};
 
 // The operation of a statement with so many formals among its names.
 fn operation(formals: usize, plain: usize, other: usize) -> usize
@@ -28,14 +28,8 @@ fn emit_kn(script: &[u8], entries: &[usize], top: usize, code: &mut [u32], at: u
 {
     let w = used(script, entries, top, at + 2);
     let value = word(script, at + 4) + 65536 * word(script, at + 6);
-    put_four(
-        code,
-        at,
-        operation(formal_of(w), layout::CONSTANT, layout::CONSTANT_FORMAL),
-        w,
-        value,
-        0,
-    );
+    let op = operation(formal_of(w), layout::CONSTANT, layout::CONSTANT_FORMAL);
+    put_all(code, at, &[op, w, value, 0]);
 }
 
 fn emit_ar(script: &[u8], entries: &[usize], top: usize, code: &mut [u32], at: usize)
@@ -51,7 +45,7 @@ fn emit_ar(script: &[u8], entries: &[usize], top: usize, code: &mut [u32], at: u
         layout::ADD + o,
         layout::ARITHMETIC_FORMAL,
     );
-    put_five(code, at, op, w, o, a, b);
+    put_all(code, at, &[op, w, o, a, b]);
 }
 
 fn emit_if(script: &[u8], entries: &[usize], top: usize, code: &mut [u32], at: usize)
@@ -60,17 +54,12 @@ fn emit_if(script: &[u8], entries: &[usize], top: usize, code: &mut [u32], at: u
 {
     let w = used(script, entries, top, at + 2);
     let a = used(script, entries, top, at + 4);
-    put_three(
-        code,
-        at,
-        operation(
-            formal_of(w) + formal_of(a),
-            layout::BRANCH,
-            layout::BRANCH_FORMAL,
-        ),
-        a,
-        w,
+    let op = operation(
+        formal_of(w) + formal_of(a),
+        layout::BRANCH,
+        layout::BRANCH_FORMAL,
     );
+    put_all(code, at, &[op, a, w]);
 }
 
 fn emit_go(script: &[u8], entries: &[usize], top: usize, code: &mut [u32], at: usize)
@@ -78,12 +67,8 @@ fn emit_go(script: &[u8], entries: &[usize], top: usize, code: &mut [u32], at: u
     ensures { Written go_words script.now (drop top entries.now) at code.old code.new }
 {
     let a = used(script, entries, top, at + 2);
-    put_two(
-        code,
-        at,
-        operation(formal_of(a), layout::GOTO, layout::GOTO_FORMAL),
-        a,
-    );
+    let op = operation(formal_of(a), layout::GOTO, layout::GOTO_FORMAL);
+    put_all(code, at, &[op, a]);
 }
 
 // AD and RM, with their operation.
@@ -93,7 +78,7 @@ fn emit_pair(script: &[u8], entries: &[usize], top: usize, code: &mut [u32], at:
 {
     let g = used(script, entries, top, at + 2);
     let m = used(script, entries, top, at + 4);
-    put_three(code, at, op, g, m);
+    put_all(code, at, &[op, g, m]);
 }
 
 fn emit_qy(script: &[u8], entries: &[usize], top: usize, code: &mut [u32], at: usize)
@@ -103,7 +88,7 @@ fn emit_qy(script: &[u8], entries: &[usize], top: usize, code: &mut [u32], at: u
     let t = used(script, entries, top, at + 2);
     let g = used(script, entries, top, at + 4);
     let m = used(script, entries, top, at + 6);
-    put_four(code, at, layout::QUERY, t, g, m);
+    put_all(code, at, &[layout::QUERY, t, g, m]);
 }
 
 // So many names from an offset on.
@@ -118,10 +103,8 @@ fn arguments(
     requires { (at < 2 ^ 32 + 6) × (count < 65536) × Chained entries.now top }
     ensures { Written (argument_words count) script.now (drop top entries.now) at code.old code.new }
 {
-    let mut i = 0;
-    while i < count {
+    for i in 0..count {
         put(code, at + 2 * i, used(script, entries, top, at + 2 * i));
-        i += 1;
     }
 }
 
@@ -131,13 +114,8 @@ fn emit_cl(script: &[u8], entries: &[usize], top: usize, code: &mut [u32], at: u
 {
     let w = used(script, entries, top, at + 2);
     let count = word(script, at + 4);
-    put_three(
-        code,
-        at,
-        operation(formal_of(w), layout::CALL, layout::CALL_FORMAL),
-        w,
-        count,
-    );
+    let op = operation(formal_of(w), layout::CALL, layout::CALL_FORMAL);
+    put_all(code, at, &[op, w, count]);
     arguments(script, entries, top, code, at + 6, count);
 }
 
@@ -146,26 +124,14 @@ pub fn emit(script: &[u8], entries: &[usize], top: usize, code: &mut [u32], at: 
     requires { (at < 2 ^ 32) × Chained entries.now top × (mark ≡ field_at script.now at) }
     ensures { Emitted script.now (drop top entries.now) at code.old code.new }
 {
-    if mark == AR {
-        return emit_ar(script, entries, top, code, at);
+    match mark {
+        AR => emit_ar(script, entries, top, code, at),
+        IF => emit_if(script, entries, top, code, at),
+        KN => emit_kn(script, entries, top, code, at),
+        CL => emit_cl(script, entries, top, code, at),
+        GO => emit_go(script, entries, top, code, at),
+        AD => emit_pair(script, entries, top, code, at, layout::ADD_PAIR),
+        RM => emit_pair(script, entries, top, code, at, layout::REMOVE_PAIR),
+        _ => emit_qy(script, entries, top, code, at),
     }
-    if mark == IF {
-        return emit_if(script, entries, top, code, at);
-    }
-    if mark == KN {
-        return emit_kn(script, entries, top, code, at);
-    }
-    if mark == CL {
-        return emit_cl(script, entries, top, code, at);
-    }
-    if mark == GO {
-        return emit_go(script, entries, top, code, at);
-    }
-    if mark == AD {
-        return emit_pair(script, entries, top, code, at, layout::ADD_PAIR);
-    }
-    if mark == RM {
-        return emit_pair(script, entries, top, code, at, layout::REMOVE_PAIR);
-    }
-    emit_qy(script, entries, top, code, at);
 }
