@@ -1,4 +1,5 @@
-// The walk over a script's records in file order. It is safe on any bytes.
+// The walk over a script's records in file order. It is safe on any bytes. What is lent stays apart in its functions: of a struct handed on
+// whole, each would have to say which parts it leaves alone, as `kinds` and `leaf` would, which write the code alone.
 ghost use Rattle.std.specs.Prelude.{◌≡◌, ℕ, ◌+◌, ◌<◌, ◌≤◌, length};
 ghost use Rattle.language.specs.Encoding.{BK-mark, PR-mark};
 ghost use Rattle.laws.specs.Fields.{field_at};

@@ -68,7 +68,8 @@ fn note(
     number(code, around, numbers, place + 3, trailing(script, at, mark));
 }
 
-// One pass over the records, which stand one after the other. `numbers` is all zeros before it.
+// One pass over the records, which stand one after the other: where the next one begins is read from this one, so no range or slice has
+// them. `numbers` is all zeros before it.
 pub fn number_names(script: &[u8], code: &[u32; 4096], numbers: &mut [u32; 4096])
     requires { numbers.old ≡ replicate 4096 0 }
     ensures numbered { NumbersStand script.now code.now numbers.new }
