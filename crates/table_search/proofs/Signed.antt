@@ -33,8 +33,5 @@ from_one a f = ap (le_z (pos 1)) (to_z-of_z f)
 pub back : (z : ℤ) → mag z < 2147483648 → to_z w32 (of_z w32 z) ≡ z
 back z h = to_z-of_z {w = w32} (record { sfits = h })
 
-pub same-cells : {r : Bool} {x y a b : ℤ} → r ≡ eq_z (to_z w32 (of_z w32 x)) (to_z w32 (of_z w32 y)) → mag x < 2147483648 → mag y < 2147483648 → x ≡ a → y ≡ b → r ≡ eq_z a b
-same-cells {x} {y} e h k p q = e ∙ ap₂ eq_z (back x h ∙ p) (back y k ∙ q)
-
 pub number-words : {r : Bool} {x y a b : ℤ} → r ≡ (at_least_one (to_z w32 (of_z w32 x)) && at_least_one (to_z w32 (of_z w32 y))) → mag x < 2147483648 → mag y < 2147483648 → x ≡ a → y ≡ b → r ≡ (at_least_one a && at_least_one b)
 number-words {x} {y} e h k p q = e ∙ ap₂ (λ (u v : ℤ). at_least_one u && at_least_one v) (back x h ∙ p) (back y k ∙ q)

@@ -16,12 +16,6 @@ fn pairs_in(len: usize, count: usize) -> usize
     count.min(len / 2)
 }
 
-pub fn same_number(a: i32, b: i32) -> bool
-    ensures { result ≡ eq_z a b }
-{
-    a == b
-}
-
 pub fn group_at(table: &[i32], i: usize) -> i32
     requires { 2 * i + 1 < length table.now }
     ensures { result ≡ group_at i table.now }
