@@ -20,6 +20,7 @@ use Rattle.language.specs.Check.{Checked, accepted, refused, length_fits, check}
 use Rattle.language.specs.Call.{Engine, Fed, limits_fit, holds_at_least, sheet_fits, records_fit, area_fits, first_failing, tests_before, tests_after, admission}
 use Rattle.language.specs.declared.Refusal.{Refusal}
 use Rattle.language.specs.declared.Refusal.TheVariants.{ScriptLength, LimitRange, AreaTooShort, TableNotRight}
+use Rattle.language.specs.declared.Fault.{Fault}
 use Rattle.language.specs.Faults.{fault, Verdict}
 use Rattle.laws.specs.Tests.{split, both, by-lookup}
 use Rattle.laws.specs.Order.{fails-here, holds-here, all_hold, AllHold, FailsFirst, due-exactly, none-exactly}
@@ -110,8 +111,9 @@ module _ (script : List ℕ) (v : Verdict) (e : v ≡ verdict_of (check script))
           absurd (omega arith)
       go (refused b p) h =
           let w : Err (fault b p) ≡ Err (fault c o) = sym (e ∙ ap verdict_of h ∙ told b p) ∙ q in
-          let x : b ≡ c = cc in
-          let y : p ≡ o = cc in
+          let f : fault b p ≡ fault c o = cc in
+          let x : b ≡ c = ap (λ (z : Fault). z.cause) f in
+          let y : p ≡ o = ap (λ (z : Fault). z.offset) f in
           run (h ∙ λ i. refused (x i) (y i))
 
   pub by-fit {ℓ} : {X : Type ℓ} → v ≡ Ok tt → ((t : Block) → check script ≡ accepted t → X) → X
@@ -139,8 +141,8 @@ accepted-length script t q = go (length_fits script) refl
 
 -- the part from the check on, in the code's words
 module _ (script : List ℕ) (d : ℕ) (area : Option ℕ) (v : Verdict) (e : v ≡ verdict_of (check script)) where
-  pub refusal-stands : (c : Refusal) (o : ℕ) → v ≡ Err (fault c o) → v ≡ checked_then script d area
-  refusal-stands c o q = by-refusal script v e c o q (λ h. q ∙ sym (refused-check script d area c o h))
+  pub refused-check-stands : (r : Verdict) (x : Fault) → v ≡ Err x → r ≡ Err x → r ≡ checked_then script d area
+  refused-check-stands r x q p = p ∙ by-refusal script v e x.cause x.offset q (λ h. sym (refused-check script d area x.cause x.offset h))
 
   pub short-after : v ≡ Ok tt → holds_at_least (d * (length script / 2)) area ≡ false → Err (fault AreaTooShort 0) ≡ checked_then script d area
   short-after q h = by-fit script v e q (λ t k. sym (area-short script d area t k h))
@@ -161,11 +163,11 @@ small d n f h =
 
 -- The whole
 module _ (e : Engine) (f : Fed) (v : Verdict) (due : v ≡ due_of (first_failing (tests_before e f))) where
-  pub turned-away : (c : Refusal) (o : ℕ) → v ≡ Err (fault c o) → v ≡ verdict_of (admission e f)
+  pub turned-away : (r : Verdict) (x : Fault) → v ≡ Err x → r ≡ Err x → r ≡ verdict_of (admission e f)
   unfolding due_of verdict_of
-  turned-away c o q =
-      by-lookup (first_failing (tests_before e f)) (λ h. let w : v ≡ Ok tt = due ∙ ap due_of h in let z : ◌≡◌ {A = ℕ} 0 1 = cc in absurd (omega arith))
-      (λ b h. due ∙ ap due_of h ∙ sym (ap verdict_of (due-refused e f (before-check ((due-exactly (tests_before e f) b).0 h)))))
+  turned-away r x q p =
+      p ∙ (sym q ∙ by-lookup (first_failing (tests_before e f)) (λ h. let w : v ≡ Ok tt = due ∙ ap due_of h in let z : ◌≡◌ {A = ℕ} 0 1 = cc in absurd (omega arith))
+      (λ b h. due ∙ ap due_of h ∙ sym (ap verdict_of (due-refused e f (before-check ((due-exactly (tests_before e f) b).0 h))))))
 
   pub passed : v ≡ Ok tt → checked_then f.script f.activations e.area ≡ verdict_of (admission e f)
   unfolding due_of

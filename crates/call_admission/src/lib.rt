@@ -21,6 +21,7 @@ pub struct CallNumbers {
     pub name: u16,
 }
 
+#[tactic(auto, unfolding(language::specs::Call::limits_fit))]
 fn limits_fit(numbers: CallNumbers) -> bool
     ensures { result ≡ limits_fit (fed_of numbers [] [] [] []) }
 {
@@ -33,6 +34,7 @@ fn limits_fit(numbers: CallNumbers) -> bool
 }
 
 // Whether an area that one engine alone is lent, if it uses one, has so many records or words.
+#[tactic(auto, unfolding(language::specs::Call::holds_at_least))]
 fn holds_at_least(asked: usize, area: Option<usize>) -> bool
     ensures { result ≡ holds_at_least asked (held_in area) }
 {

@@ -77,7 +77,8 @@ fn insert(
     }
 }
 
-pub fn clear_marks(marks: &mut [u64; 4096])
+pub fn clear_marks(marks: &mut [u64])
+    requires { length marks.old ≡ 4096 }
     ensures { (q : ℕ) → get_or marks.new q 0 ≡ 0 }
 {
     marks.fill(0);
