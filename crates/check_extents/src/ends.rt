@@ -65,6 +65,7 @@ fn fill(script: &[u8], ends: &mut [u32; 683], at: usize, first: Step) -> usize
 {
     let mut here = first.next;
     let mut pending = first.more;
+    // No range: each head that is passed adds what stands inside its record.
     while 0 < pending {
         if script.len() <= here {
             return here;

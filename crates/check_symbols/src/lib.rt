@@ -52,6 +52,7 @@ pub fn find(entries: &[usize], top: usize, name: usize) -> Option<usize>
     ensures { (result ≡ found_in name (drop top entries.now)) × Near result }
 {
     let mut i = first(entries, top, name);
+    // No range: the next entry is where the chain goes on.
     while i < entries.len() {
         let e = entries[i];
         if e % 65536 == name {

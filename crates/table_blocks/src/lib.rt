@@ -98,6 +98,7 @@ pub fn lower_window(
     let span = last - first;
     let mut block = [0u32; 1024];
     let mut i = 0;
+    // No range: a step is a block of pairs, and the last one may be short.
     while i < count {
         let to = block_end(i, count);
         let n = gather(table, i, to, first, span, &mut block);

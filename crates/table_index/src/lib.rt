@@ -39,6 +39,7 @@ fn vacant(slots: &[u16], group: u64) -> usize
     ensures result_value { get_or slots.now result 0 ≡ 0 }
 {
     let mut q = home(slots.len(), group);
+    // No range: the search ends at an empty slot, whose number is not known before.
     loop {
         if slots[q] == 0 {
             return q;
