@@ -1,40 +1,42 @@
--- A pair is taken out by moving the words after it down by two, one by one. The place still to be freed goes up with them.
+-- A pair is taken out: the words after it move down by two, and the two that they leave are set to 0.
 use Prim.Native.Nat.{ℕ, zero, suc, ◌+◌, ◌*◌, ◌-◌, ◌/◌, ◌<◌, ◌≤◌, min}
-use mathlib.Core.Path.{◌≡◌, refl, ap}
+use mathlib.Core.Path.{◌≡◌, refl, sym, ◌∙◌, ap}
 use mathlib.Core.List.{List, [], ◌∷◌, ◌++◌}
 use native.Mathlib.Nat.{zero-min, min-zero, suc-min-suc}
 use native.Mathlib.Omega.{arith}
 use lib.IntN.{ℤ, pos}
-use lib.ListN.{length, take, drop, get_or, set}
+use lib.ListN.{length, take, drop, set}
+use lib.Seq.{paste}
 use Rattle.language.specs.Table.{take_out}
 use Rattle.laws.specs.Lists.{twice-suc}
 
 -- the two words at i taken out: the n words after them move down by two and the two words after those are set to 0
-unfoldable pub cut : ℕ → ℕ → List ℤ → List ℤ
+unfoldable cut : ℕ → ℕ → List ℤ → List ℤ
 cut i n [] = []
 cut zero n (a ∷ []) = a ∷ []
 cut zero n (a ∷ b ∷ ws) = take n ws ++ (pos 0 ∷ pos 0 ∷ drop n ws)
 cut (suc i) n (a ∷ ws) = a ∷ cut i n ws
 
-up : (i j : ℕ) → suc i + j ≡ suc (i + j)
-up i j = omega arith
+-- the words moved down, and the two words that they leave set to 0
+emptied : (n : ℕ) (a b : ℤ) (ws : List ℤ) → n ≤ length ws → set (set (take n ws ++ drop n (a ∷ b ∷ ws)) n (pos 0)) (n + 1) (pos 0) ≡ take n ws ++ (pos 0 ∷ pos 0 ∷ drop n ws)
+emptied zero a b ws h = refl
+emptied (suc n) a b [] h = absurd (omega arith)
+emptied (suc n) a b (w ∷ ws) h =
+    let e : suc n + 1 ≡ suc (n + 1) = omega arith in
+    rw e (ap (w ∷◌) (emptied n b w ws (omega arith)))
 
--- one word moved down
-pub cut_step : (i n : ℕ) (ws : List ℤ) → i + 2 < length ws → cut (suc i) n (set ws i (get_or ws (i + 2) (pos 0))) ≡ cut i (suc n) ws
+cut-written : (i n : ℕ) (ws : List ℤ) → i + n + 2 ≤ length ws → set (set (paste ws i (drop (i + 2) ws) n) (i + n) (pos 0)) (i + n + 1) (pos 0) ≡ cut i n ws
 unfolding cut
-cut_step i n [] h = absurd (omega arith)
-cut_step zero n (a ∷ []) h = absurd (omega arith)
-cut_step zero n (a ∷ b ∷ []) h = absurd (omega arith)
-cut_step zero n (a ∷ b ∷ c ∷ ws) h = refl
-cut_step (suc i) n (a ∷ ws) h = rw (up i 2) (ap (a ∷◌) (cut_step i n ws (omega arith)))
-
--- none left to move
-pub cut-last : (i : ℕ) (ws : List ℤ) → i + 1 < length ws → cut i 0 ws ≡ set (set ws i (pos 0)) (i + 1) (pos 0)
-unfolding cut
-cut-last i [] h = absurd (omega arith)
-cut-last zero (a ∷ []) h = absurd (omega arith)
-cut-last zero (a ∷ b ∷ ws) h = refl
-cut-last (suc i) (a ∷ ws) h = rw (up i 1) (ap (a ∷◌) (cut-last i ws (omega arith)))
+cut-written i n [] h = absurd (omega arith)
+cut-written zero n (a ∷ []) h = absurd (omega arith)
+cut-written zero n (a ∷ b ∷ ws) h =
+    let e : 0 + n ≡ n = omega arith in
+    rw e (emptied n a b ws (omega arith))
+cut-written (suc i) n (a ∷ ws) h =
+    let e : suc i + 2 ≡ suc (i + 2) = omega arith in
+    let f : suc i + n ≡ suc (i + n) = omega arith in
+    let g : suc (i + n) + 1 ≡ suc (i + n + 1) = omega arith in
+    rw (e, f, g) (ap (a ∷◌) (cut-written i n ws (omega arith)))
 
 -- ---- the definition's pairs as words
 
@@ -44,7 +46,7 @@ clamped zero ws = rw (zero-min (length ws))
 clamped (suc n) [] = rw (min-zero (suc n))
 clamped (suc n) (a ∷ ws) = rw (suc-min-suc n (length ws)) (ap (a ∷◌) (clamped n ws))
 
-pub take_out-cut : (i k e : ℕ) (ws : List ℤ) → e ≡ min (2 * k) (length ws) → i < e / 2 → take_out i k ws ≡ cut (2 * i) (e - (2 * i + 2)) ws
+take_out-cut : (i k e : ℕ) (ws : List ℤ) → e ≡ min (2 * k) (length ws) → i < e / 2 → take_out i k ws ≡ cut (2 * i) (e - (2 * i + 2)) ws
 unfolding take_out cut
 take_out-cut i zero e ws h f = absurd (omega arith)
 take_out-cut i (suc k) e [] h f = absurd (omega arith)
@@ -63,3 +65,12 @@ take_out-past i (suc k) [] h = refl
 take_out-past i (suc k) (a ∷ []) h = refl
 take_out-past zero (suc k) (a ∷ b ∷ ws) h = absurd (omega arith)
 take_out-past (suc i) (suc k) (a ∷ b ∷ ws) h = ap (λ (l : List ℤ). a ∷ b ∷ l) (take_out-past i k ws (omega arith))
+
+-- the pair at i taken out of those that end at e
+pub take_out-written :
+    (i k e : ℕ) (ws : List ℤ) → e ≡ min (2 * k) (length ws) → i < e / 2 →
+    set (set (paste ws (2 * i) (drop (2 * i + 2) ws) (e - (2 * i + 2))) (e - 2) (pos 0)) (e - 1) (pos 0) ≡ take_out i k ws
+take_out-written i k e ws h f =
+    let low : e - 2 ≡ 2 * i + (e - (2 * i + 2)) = omega arith in
+    let high : e - 1 ≡ 2 * i + (e - (2 * i + 2)) + 1 = omega arith in
+    rw (low, high) (cut-written (2 * i) (e - (2 * i + 2)) ws (omega arith) ∙ sym (take_out-cut i k e ws h f))

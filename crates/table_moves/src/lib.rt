@@ -9,10 +9,10 @@ ghost use Rattle.table_moves.specs.PutIn.{put_in};
 fn words_in(len: usize, count: usize) -> usize
     ensures { result ≡ min (2 * count) len }
 {
-    if count <= len / 2 { 2 * count } else { len }
+    count.saturating_mul(2).min(len)
 }
 
-// The pair at `place` is taken out of `count`. The words after it move down one by one, and not two by two, since a table of odd length may
+// The pair at `place` is taken out of `count`. The words after it move down as they stand, and not by pairs, since a table of odd length may
 // end with half a pair, which moves too.
 pub fn take_out(table: &mut [i32], count: usize, place: usize)
     ensures { table.new ≡ take_out place count table.old }
@@ -21,13 +21,9 @@ pub fn take_out(table: &mut [i32], count: usize, place: usize)
     if end / 2 <= place {
         return;
     }
-    let mut i = 2 * place;
-    while i + 2 < end {
-        table[i] = table[i + 2];
-        i += 1;
-    }
-    table[i] = 0;
-    table[i + 1] = 0;
+    table.copy_within(2 * place + 2..end, 2 * place);
+    table[end - 2] = 0;
+    table[end - 1] = 0;
 }
 
 // A pair is put in at `place` of `count`. Those from there on move up, the last one over the pair after all of them.
@@ -37,11 +33,7 @@ pub fn put_in(table: &mut [i32], count: usize, place: usize, first: i32, second:
     ensures { table.new ≡ put_in (2 * place) (2 * count - 2 * place) first second table.old }
 {
     let start = 2 * place;
-    let mut i = 2 * count;
-    while start < i {
-        i -= 1;
-        table[i + 2] = table[i];
-    }
+    table.copy_within(start..2 * count, start + 2);
     table[start] = first;
     table[start + 1] = second;
 }

@@ -13,7 +13,7 @@ ghost use Rattle.table_search.specs.Places.{placed, among_pairs};
 fn pairs_in(len: usize, count: usize) -> usize
     ensures { result ≡ min count (len / 2) }
 {
-    if count <= len / 2 { count } else { len / 2 }
+    count.min(len / 2)
 }
 
 pub fn same_number(a: i32, b: i32) -> bool
@@ -43,10 +43,7 @@ fn pair_is(table: &[i32], i: usize, group: i32, member: i32) -> bool
 {
     let g = group_at(table, i);
     let m = member_at(table, i);
-    if same_number(g, group) {
-        return same_number(m, member);
-    }
-    false
+    g == group && m == member
 }
 
 pub fn at_least_one(number: i32) -> bool
@@ -58,10 +55,7 @@ pub fn at_least_one(number: i32) -> bool
 pub fn numbers_fit(group: i32, member: i32) -> bool
     ensures { result ≡ (at_least_one group && at_least_one member) }
 {
-    if at_least_one(group) {
-        return at_least_one(member);
-    }
-    false
+    at_least_one(group) && at_least_one(member)
 }
 
 // Whether the pair is one of the 32 from place `from` on. All 32 are compared, with no way out at the first hit.
@@ -70,12 +64,10 @@ fn block_holds(table: &[i32], from: usize, group: i32, member: i32) -> bool
     ensures { result ≡ among_pairs group member from 32 table.now }
 {
     let mut hits: u32 = 0;
-    let mut j = 0;
-    while j < 32 {
+    for j in 0..32 {
         if pair_is(table, from + j, group, member) {
             hits += 1;
         }
-        j += 1;
     }
     0 < hits
 }
@@ -85,14 +77,12 @@ fn without(table: &[i32], n: usize, group: i32, member: i32) -> usize
     requires { 2 * n ≤ length table.now }
     ensures { (result ≤ n) × (find group member result table.now ≡ none) }
 {
-    let mut i = 0;
-    while 32 <= n - i {
-        if block_holds(table, i, group, member) {
-            return i;
+    for block in 0..n / 32 {
+        if block_holds(table, 32 * block, group, member) {
+            return 32 * block;
         }
-        i += 32;
     }
-    i
+    n / 32 * 32
 }
 
 // The first place of a pair among the first `count`, counted in pairs from 0, if it has one.
@@ -100,12 +90,10 @@ pub fn place_of(table: &[i32], count: usize, group: i32, member: i32) -> Option<
     ensures { result ≡ placed (find group member count table.now) }
 {
     let n = pairs_in(table.len(), count);
-    let mut i = without(table, n, group, member);
-    while i < n {
+    for i in without(table, n, group, member)..n {
         if pair_is(table, i, group, member) {
             return Some(i);
         }
-        i += 1;
     }
     None
 }
@@ -114,12 +102,12 @@ pub fn place_of(table: &[i32], count: usize, group: i32, member: i32) -> Option<
 pub fn present(table: &[i32], count: usize, group: i32, member: i32) -> bool
     ensures { result ≡ is_some (find group member count table.now) }
 {
-    let mut i = pairs_in(table.len(), count);
-    while 32 <= i {
-        i -= 32;
-        if block_holds(table, i, group, member) {
+    let n = pairs_in(table.len(), count);
+    let rest = n % 32;
+    for block in (0..n / 32).rev() {
+        if block_holds(table, rest + 32 * block, group, member) {
             return true;
         }
     }
-    place_of(table, i, group, member).is_some()
+    place_of(table, rest, group, member).is_some()
 }
