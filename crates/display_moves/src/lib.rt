@@ -10,7 +10,7 @@ ghost use Rattle.display_moves.specs.Moving.{level_at, end_at};
 
 use layout::{SHARE, cell_at, end_of, first_of, formals_of, level_of, names_of};
 use numbers::from_u16;
-use run_state::{Registers, narrow};
+use run_state::Registers;
 use run_words::{clear, code_at};
 
 // The level of the block at a place.
@@ -56,7 +56,7 @@ fn restore(
                 return;
             }
         }
-        display[l] = narrow(SHARE * a);
+        display[l] = (SHARE * a) as u16;
         a = from_u16(links[a]);
         l -= 1;
     }
@@ -154,12 +154,12 @@ pub fn enter(
     let live = here.live;
     let head = code_at(code, body);
     let bounds = code_at(code, body + 1);
-    nexts[live] = narrow(back);
+    nexts[live] = back as u16;
     link_to(code, blocks, links, display, live, link);
     let fresh = live + 1;
-    blocks[fresh] = narrow(body);
-    links[fresh] = narrow(link);
-    display[level_of(head)] = narrow(SHARE * fresh);
+    blocks[fresh] = body as u16;
+    links[fresh] = link as u16;
+    display[level_of(head)] = (SHARE * fresh) as u16;
     clear(
         cells,
         cell_at(fresh, formals_of(head)),
@@ -180,5 +180,5 @@ pub fn note_place(nexts: &mut [u16; 256], here: Registers)
     ensures { nexts.new ≡ set nexts.old here.live here.at }
 {
     let live = here.live;
-    nexts[live] = narrow(here.at);
+    nexts[live] = here.at as u16;
 }
