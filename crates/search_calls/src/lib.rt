@@ -62,8 +62,7 @@ fn arguments(
     ensures { AllHanded code.now numbers.now blocks.now froms.now live cells.old passers.old at count cells.new passers.new }
 {
     let first = SHARE * live + SHARE;
-    let mut i = 0;
-    while i < count {
+    for i in 0..count {
         hand(
             code,
             numbers,
@@ -75,7 +74,6 @@ fn arguments(
             at + i,
             first + i,
         );
-        i += 1;
     }
 }
 
