@@ -1,9 +1,8 @@
 -- Words of the list as unsigned numbers: what the machine computes from their bits.
-use Rattle.std.proofs.Common.{◌≡◌, ℕ, ◌+◌, ◌%◌, ◌<◌, ◌≤◌, Bool, true, false, ◌&&◌, T, ltb, leb, ℤ, pos, negsuc, nat_abs, sym, refl, ap, ◌∙◌, subst, ap₂, arith, w32, Fits, to_z, of_z, le-ltb, lt-ltb, leb-false, leb-true}
+use Rattle.std.proofs.Common.{◌≡◌, ℕ, ◌<◌, ◌≤◌, Bool, true, false, T, ℤ, pos, negsuc, nat_abs, refl, ap, ◌∙◌, subst, arith, w32, Fits, to_z, of_z, leb-true}
 use lib.Signed.{mag, non_neg}
 use mir.Facts.{to_z_pos}
 use Rattle.language.specs.Table.{at_least_one}
-use Rattle.laws.specs.Tests.{split}
 use Rattle.table_search.proofs.Signed.{back}
 
 -- a word that is not negative, as an unsigned number
@@ -21,13 +20,3 @@ pub at_least_one_lem : (z : ℤ) → at_least_one z ≡ true → (z ≡ pos (nat
 unfolding at_least_one
 at_least_one_lem (pos n) e = (refl, leb-true 1 n e)
 at_least_one_lem (negsuc n) e = absurd (let q : ◌≡◌ {A = Bool} false true = e in let y : ◌≡◌ {A = ℕ} 0 1 = cc in omega arith)
-
--- one less, wrapped, is below b: the number is at least 1 and at most b
-pub test-within : (v w b : ℕ) → (v + 1) % 4294967296 ≡ w → v < 4294967296 → b < 4294967296 → ltb v b ≡ (leb 1 w && leb w b)
-test-within v w b e h k = split (leb 1 w) (λ t. some t (leb-true 1 w t)) (λ t. none t (leb-false 1 w t))
-  where
-    none : leb 1 w ≡ false → w < 1 → ltb v b ≡ (leb 1 w && leb w b)
-    none t l = le-ltb v b (omega arith) ∙ sym (ap (λ (x : Bool). x && leb w b) t)
-
-    some : leb 1 w ≡ true → 1 ≤ w → ltb v b ≡ (leb 1 w && leb w b)
-    some t l = split (leb w b) (λ u. lt-ltb v b (omega (arith, leb-true w b u)) ∙ sym (ap₂ ◌&&◌ t u)) (λ u. le-ltb v b (omega (arith, leb-false w b u)) ∙ sym (ap₂ ◌&&◌ t u))

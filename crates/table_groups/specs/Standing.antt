@@ -10,6 +10,10 @@ place_in g [] = 0
 place_in g (a ∷ []) = 0
 place_in g (a ∷ n ∷ ps) = elim (nat_lt a g) [ true ↦ suc (place_in g ps) | false ↦ 0 ]
 
+-- a lent list of so many places
+abbrev pub HasListing : ℕ → List ℤ → Type 0
+HasListing places ws = (ps : List ℕ) × ((past : List ℤ) × Listing places ps past ws)
+
 -- a lent list, and what it says of g
 pub record Found (places g : ℕ) (found : GroupPlace) (ps : List ℕ) (past ws : List ℤ) : Type 0 where
   pub listing : Listing places ps past ws

@@ -8,7 +8,7 @@ use native.Mathlib.Omega.{arith}
 use borrow.Author.Tests.{lt-ltb, le-ltb, le-leb, lt-leb}
 use lib.IntN.{ℤ, pos}
 use lib.ListN.{length}
-use mir.Val.{SFits, to_z, of_z}
+use mir.Val.{SFits, to_z, of_z, bool_byte}
 use mir.Syntax.{w32}
 use mir.Facts.{to_z-of_z}
 use Rattle.language.specs.Table.{Table, find, is_some, holds, size, at_least_one, full, add, remove, take_out, fewer, leaves, halts, gives, refuses, added, removed, queried}
@@ -85,13 +85,11 @@ module _ (g m : ℤ) (t : Table) where
   unfolding queried
   queried-below e = rw (e, queried)
 
-  pub queried-yes : (at_least_one g && at_least_one m) ≡ true → holds g m t ≡ true → queried g m t ≡ gives (pos 1)
+  -- the value is 1 or 0, as the pair is there or not
+  pub queried-told : (r : Bool) → (at_least_one g && at_least_one m) ≡ true → holds g m t ≡ r → queried g m t ≡ gives (to_z w32 (of_z w32 (pos (bool_byte r))))
   unfolding queried
-  queried-yes e f = rw (e, f, queried)
-
-  pub queried-no : (at_least_one g && at_least_one m) ≡ true → holds g m t ≡ false → queried g m t ≡ gives (pos 0)
-  unfolding queried
-  queried-no e f = rw (e, f, queried)
+  queried-told true e f = rw (e, f, queried)
+  queried-told false e f = rw (e, f, queried)
 
 pub one_fewer : (k : ℕ) → k - 1 ≡ fewer k
 unfolding fewer

@@ -37,10 +37,7 @@ fn held(table: &[i32], count: usize, group: i32, member: i32, members: u32) -> b
     requires count_in_bounds { 2 * count ≤ length table.now }
     ensures { result ≡ holds group member (table_of table.now count) }
 {
-    if members == 0 {
-        return false;
-    }
-    present(table, count, group, member)
+    members != 0 && present(table, count, group, member)
 }
 
 // AD: the count of pairs after it, or the cause to stop. The group is judged by the list and before the table, and both before anything is written.
@@ -62,11 +59,10 @@ pub fn add_pair(
         return Err(Stop::NumberBelowOne);
     }
     let found = find_group(groups, count, group);
-    let number = found.number;
-    if held(table, count, group, member, number) {
+    if held(table, count, group, member, found.number) {
         return Ok(count);
     }
-    if limit <= number {
+    if limit <= found.number {
         return Err(Stop::GroupFull);
     }
     if table.len() / 2 <= count {
@@ -95,20 +91,16 @@ pub fn remove_pair(
         return Err(Stop::NumberBelowOne);
     }
     let found = find_group(groups, count, group);
-    let number = found.number;
-    if number == 0 {
+    if found.number == 0 {
         return Ok(count);
     }
-    let there = place_of(table, count, group, member);
-    match there {
-        None => Ok(count),
-        Some(place) => {
-            // No other place than `place`: so that the compiler does not carry what `take_out` needs of it through the search.
-            take_out(table, count, place % 9223372036854775808);
-            lower(groups, count, found);
-            Ok(count - 1)
-        }
-    }
+    let Some(place) = place_of(table, count, group, member) else {
+        return Ok(count);
+    };
+    // No other place than `place`: so that the compiler does not carry what `take_out` needs of it through the search.
+    take_out(table, count, place % 9223372036854775808);
+    lower(groups, count, found);
+    Ok(count - 1)
 }
 
 // QY: the value that it stores, or the cause to stop. The value is 1 where the pair is present, else 0.
@@ -118,8 +110,5 @@ pub fn query_pair(table: &[i32], count: usize, group: i32, member: i32) -> Resul
     if !numbers_fit(group, member) {
         return Err(Stop::NumberBelowOne);
     }
-    if present(table, count, group, member) {
-        return Ok(1);
-    }
-    Ok(0)
+    Ok(i32::from(present(table, count, group, member)))
 }
