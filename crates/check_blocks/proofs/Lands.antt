@@ -1,8 +1,9 @@
 -- Every reader of a script's structure goes forward by whole fields and leaves what stands from its end on: so an offset says all that
 -- the code has to hold of what is unread. Assumes nothing.
 use Rattle.language.specs.Faults.{fault}
+use Rattle.language.specs.declared.Fault.{Fault}
 use Rattle.std.specs.Prelude.{Ok, Err}
-use mathlib.Core.Path.{◌≡◌, refl, ◌∙◌}
+use mathlib.Core.Path.{◌≡◌, refl, sym, ap, ◌∙◌}
 use mathlib.Core.Bool.{Bool, true, false}
 use mathlib.Core.List.{List, []}
 use Prim.Native.Nat.{ℕ, zero, suc, ◌%◌, ◌≤◌}
@@ -42,7 +43,9 @@ landed bs at next (refuse c o) l e = let z : ◌≡◌ {A = ℕ} 0 1 = cc in abs
 pub turned-away : {A : Type 0} {c : Refusal} {o : ℕ} (x : Outcome A) → forget x ≡ Err (fault c o) → x ≡ refuse c o
 unfolding forget
 turned-away (read a p ws) e = let z : ◌≡◌ {A = ℕ} 0 1 = cc in absurd (omega arith)
-turned-away (refuse d p) e = cc
+turned-away {c = c} {o = o} (refuse d p) e =
+    let f : fault c o ≡ fault d p = cc in
+    ap (λ (x : Fault). refuse x.cause x.offset) (sym f)
 
 module _ (bs : List ℕ) where
   further : {A : Type 0} (at next : ℕ) (x : Outcome A) → at ≤ next → next % 2 ≡ at % 2 → Lands bs next x → Lands bs at x

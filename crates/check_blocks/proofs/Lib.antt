@@ -9,3 +9,5 @@ pub mod BlockLaws
 pub mod Loops
 pub mod Shapes
 pub mod Rows
+pub mod Sizes
+pub mod AtSize

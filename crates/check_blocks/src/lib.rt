@@ -83,8 +83,7 @@ fn declarations(
 {
     let base = MOST_NAMES * (LEVELS - (below + 1));
     let mut reader = Reader { script, at };
-    let mut i = 0;
-    while i < d {
+    for i in 0..d {
         let count = held + i;
         let reading = check_readers::declaration_here(reader);
         let Reading::Taken { mark, f0, f1, .. } = reading else {
@@ -94,7 +93,6 @@ fn declarations(
         let end = body(script, names, mark, next, f1 as usize, below)?;
         names[base + count] = f0;
         reader.at = end;
-        i += 1;
     }
     Ok(reader.at)
 }
@@ -139,8 +137,7 @@ fn statements(
     ensures keeps { take (base_of below) names.new ≡ take (base_of below) names.old }
 {
     let mut reader = Reader { script, at };
-    let mut i = 0;
-    while i < s {
+    for _ in 0..s {
         let reading = check_readers::statement_here(reader);
         let Reading::Taken {
             mark,
@@ -162,7 +159,6 @@ fn statements(
             f1 as usize,
             below,
         )?;
-        i += 1;
     }
     Ok(reader.at)
 }

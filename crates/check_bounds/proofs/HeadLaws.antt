@@ -77,7 +77,10 @@ module _ (at s : ℕ) (ns : List ℕ) {x : Reading} where
 pub judged-refused : (p : Progress) (m : Mark) (next f0 f1 f2 f3 : ℕ) {c : Refusal} {o : ℕ} → judged p (Taken m next f0 f1 f2 f3) ≡ Untaken c o → p ≡ Err (fault c o)
 unfolding judged
 judged-refused (Ok from) m next f0 f1 f2 f3 e = let z : ◌≡◌ {A = ℕ} 0 1 = cc in absurd (omega arith)
-judged-refused (Err x) m next f0 f1 f2 f3 e = cc
+judged-refused (Err x) m next f0 f1 f2 f3 {c = c} {o = o} e =
+    let p : x.cause ≡ c = cc in
+    let q : x.offset ≡ o = cc in
+    ap₂ (λ (a : Refusal) (b : ℕ). Err (fault a b)) p q
 
 module _ (at s : ℕ) (ns : List ℕ) {m : Mark} {next f0 f1 f2 f3 : ℕ} where
   judged-taken : (p : Progress) (m' : Mark) (n' a b c d : ℕ) → once_at (ranged_of (decl_mark_of m') at n' b s) (among a ns) at ≡ p → judged p (Taken m' n' a b c d) ≡ Taken m next f0 f1 f2 f3 → (Taken m' n' a b c d ≡ Taken m next f0 f1 f2 f3) × (once_at (ranged_of (decl_mark_of m) at next f1 s) (among f0 ns) at ≡ Ok next)

@@ -1,4 +1,4 @@
--- Values put into an array one after the other, from `base` on.
+-- Values put into an array one after the other, from `base` on: for `resolve_names`, which stores them by their index.
 -- Assumes nothing.
 use mathlib.Core.Path.{◌≡◌, refl, sym, ◌∙◌, ap}
 use mathlib.Core.List.{List, [], ◌∷◌, ◌++◌, append-nil, append_assoc}

@@ -1,7 +1,7 @@
 // Where a record ends, with all that stands inside it. The ends of procedures are noted in a table as they are passed, so that a body
 // inside others is passed once and not again for each procedure around it. No two procedures begin within 12 bytes: a PR and the BK of
 // its body have 6 each.
-ghost use Rattle.std.specs.Prelude.{◌≡◌, List, ℕ, ◌+◌, ◌/◌, ◌%◌, ◌<◌, ◌≤◌, length, get_or};
+ghost use Rattle.std.specs.Prelude.{◌≡◌, List, ℕ, ◌+◌, ◌/◌, ◌%◌, ◌<◌, ◌≤◌, length, get_or, IfSome};
 ghost use Rattle.language.specs.Encoding.{PR-mark};
 ghost use Rattle.laws.specs.Fields.{field_at};
 ghost use Rattle.check_extents.specs.Passing.{Passed, Skipped, Stepped, Ends};
@@ -10,22 +10,17 @@ use super::passing::{Step, block_head, past, procedure_head};
 use check_fields::word;
 use check_marks::{BK, PR, VR, VR_BYTES};
 
-fn unpacked(x: u32) -> usize
-    ensures { result ≡ x }
-{
-    x as usize
-}
-
-// The end noted for the record at an offset, or 0.
-fn noted(ends: &[u32; 683], at: usize) -> usize
+// The end noted for the record at an offset, if one is.
+fn noted(ends: &[u32; 683], at: usize) -> Option<usize>
     requires { (length ends.now ≡ 683) × (at < 8192) }
-    ensures { 0 < result → (at ≡ get_or ends.now (at / 12) 0 / 65536) × (result ≡ get_or ends.now (at / 12) 0 % 65536) }
+    ensures { IfSome result (λ end. (0 < end) × (at ≡ get_or ends.now (at / 12) 0 / 65536) × (end ≡ get_or ends.now (at / 12) 0 % 65536)) }
 {
-    let e = unpacked(ends[at / 12]);
-    if e / 65536 == at {
-        return e % 65536;
+    let e = ends[at / 12] as usize;
+    let end = e % 65536;
+    if e / 65536 == at && 0 < end {
+        return Some(end);
     }
-    0
+    None
 }
 
 fn note(ends: &mut [u32; 683], at: usize, end: usize)
@@ -88,8 +83,7 @@ fn procedure(script: &[u8], ends: &mut [u32; 683], at: usize) -> usize
     ensures skipped { Skipped script.now at result }
     ensures noted { Ends script.now ends.new }
 {
-    let end = noted(ends, at);
-    if 0 < end {
+    if let Some(end) = noted(ends, at) {
         return end;
     }
     fill(script, ends, at, procedure_head(script, at))

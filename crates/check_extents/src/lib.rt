@@ -26,10 +26,8 @@ pub fn push(
     ensures { Placed script.now entries.old entries.new ends.new at count base }
 {
     let mut here = at;
-    let mut i = 0;
-    while i < count {
-        entries[base + i] = entry_of(word(script, here + 2), here);
+    for entry in &mut entries[base..base + count] {
+        *entry = entry_of(word(script, here + 2), here);
         here = skip(script, ends, here);
-        i += 1;
     }
 }

@@ -2,14 +2,12 @@
 ghost use Rattle.std.specs.Prelude.{◌≡◌, ◌^◌, ◌<◌, get_or};
 ghost use Rattle.laws.specs.Fields.{field_at};
 
-use numbers::from_u8;
-
 // A byte of the script; 0 past its end.
 fn byte(script: &[u8], at: usize) -> usize
     ensures { (result ≡ get_or script.now at 0) × (result < 256) }
 {
     if at < script.len() {
-        return from_u8(script[at]);
+        return usize::from(script[at]);
     }
     0
 }
@@ -20,7 +18,7 @@ pub fn word_at(script: &[u8], at: usize) -> usize
     ensures { (result ≡ field_at script.now at) × (result < 65536) }
 {
     if at + 1 < script.len() {
-        return from_u8(script[at]) + 256 * from_u8(script[at + 1]);
+        return usize::from(script[at]) + 256 * usize::from(script[at + 1]);
     }
     byte(script, at)
 }

@@ -10,20 +10,23 @@ use lib.ListN.{length, get_or, drop, drop_of_length-le}
 use lib.Seq.{drop-cons}
 use borrow.Author.Tests.{eq-eqb, ne_eqb}
 use Rattle.language.specs.Structure.{block_marks, formal_marks, decl_marks, stmt_marks}
-use Rattle.check_marks.specs.Marks.{decl_mark, stmt_mark, only_mark, bit_of, fit_in, fit_at}
+use Rattle.check_marks.specs.Marks.{Fit, decl_mark, stmt_mark, only_mark, bit_of, fit_in, fit_at}
 use Rattle.check_marks.specs.declared.Mark.{Mark}
 use Rattle.check_marks.specs.declared.Mark.TheVariants.{BK, VR, LB, PR, FM, CL, GO, IF, KN, AR, AD, RM, QY}
 use Rattle.check_marks.specs.declared.Place.{Place}
 use Rattle.check_marks.specs.declared.Place.TheVariants.{Block, Formal, Declaration, Statement}
 use Rattle.check_marks.specs.declared.Entry.{Entry}
-use Rattle.check_marks.specs.declared.Fit.{Fit}
-use Rattle.check_marks.specs.declared.Fit.TheVariants.{Matched, Nothing}
+use Rattle.std.specs.Prelude.{Some, None}
+
+-- what is found: so many fields, and the mark
+abbrev pub matched : ℕ → Mark → Fit
+matched n m = Some (record { count = n; mark = m })
 
 abbrev entry : ℕ → ℕ → ℕ → Mark → Entry
 entry w n ps m = record { letters = w; count = n; places = ps; mark = m }
 
 -- `MARKS`, as the code has it
-abbrev entries : List Entry
+abbrev pub entries : List Entry
 entries =
     entry 0x4d46 2 2 FM ∷
     entry 0x5256 1 4 VR ∷
@@ -42,8 +45,8 @@ entries =
 
 -- the first with these letters, of those that may stand at the place with this bit
 pub fit_from : ℕ → ℕ → List Entry → Fit
-fit_from b w [] = Nothing
-fit_from b w (e ∷ es) = elim (eqb (e.places / b % 2) 1 && eqb w e.letters) [ true ↦ Matched e.count e.mark | false ↦ fit_from b w es ]
+fit_from b w [] = None
+fit_from b w (e ∷ es) = elim (eqb (e.places / b % 2) 1 && eqb w e.letters) [ true ↦ matched e.count e.mark | false ↦ fit_from b w es ]
 
 table-rule : (p : Place) (w : ℕ) → fit_from (bit_of p) w entries ≡ fit_at p w
 unfolding fit_from fit_at fit_in block_marks formal_marks decl_marks stmt_marks decl_mark stmt_mark only_mark
@@ -57,7 +60,7 @@ bit-rule p w q = ap (λ k. fit_from k w entries) q ∙ table-rule p w
 
 -- a search through any table, row by row
 module _ (b w : ℕ) where
-  cons-fits : (e : Entry) (es : List Entry) → e.places / b % 2 ≡ 1 → e.letters ≡ w → fit_from b w (e ∷ es) ≡ Matched e.count e.mark
+  cons-fits : (e : Entry) (es : List Entry) → e.places / b % 2 ≡ 1 → e.letters ≡ w → fit_from b w (e ∷ es) ≡ matched e.count e.mark
   unfolding fit_from
   cons-fits e es p q = rw (eq-eqb (e.places / b % 2) 1 p, eq-eqb w e.letters (sym q), fit_from)
 
@@ -79,7 +82,7 @@ module _ (b w : ℕ) where
     next_row : fit_from b w (here ∷ drop (suc i) es) ≡ fit_from b w (drop (suc i) es) → fit_from b w (drop (i + 1) es) ≡ fit_from b w (drop i es)
     next_row q = ap (λ k. fit_from b w (drop k es)) (add-one i) ∙ sym (at_row ∙ q)
 
-    pub at-fits : here.places / b % 2 ≡ 1 → here.letters ≡ w → fit_from b w (drop i es) ≡ Matched here.count here.mark
+    pub at-fits : here.places / b % 2 ≡ 1 → here.letters ≡ w → fit_from b w (drop i es) ≡ matched here.count here.mark
     at-fits p q = at_row ∙ cons-fits here (drop (suc i) es) p q
 
     pub at_other : here.places / b % 2 ≡ 1 → (here.letters ≡ w → ⊥) → fit_from b w (drop (i + 1) es) ≡ fit_from b w (drop i es)
@@ -88,6 +91,6 @@ module _ (b w : ℕ) where
     pub at-barred : (here.places / b % 2 ≡ 1 → ⊥) → fit_from b w (drop (i + 1) es) ≡ fit_from b w (drop i es)
     at-barred p = next_row (cons-barred here (drop (suc i) es) p)
 
-  pub none_left : (es : List Entry) (i : ℕ) → length es ≤ i → fit_from b w (drop i es) ≡ Nothing
+  pub none_left : (es : List Entry) (i : ℕ) → length es ≤ i → fit_from b w (drop i es) ≡ None
   unfolding fit_from
   none_left es i h = ap (fit_from b w) (drop_of_length-le es h)

@@ -5,8 +5,6 @@ ghost use Rattle.std.specs.Prelude.{◌≡◌, ◌<◌};
 ghost use Rattle.check_marks.specs.Marks.{bit_of, fit_at};
 ghost use Rattle.check_marks.specs.Counts.{field_count};
 
-use numbers::from_u8;
-
 #[derive(Clone, Copy)]
 pub enum Mark {
     BK,
@@ -206,9 +204,7 @@ pub fn find_mark(letters: u32, place: Place) -> Option<Matched>
 {
     let marks = MARKS;
     let bit = bit_of(place);
-    let mut i = 0;
-    while i < 13 {
-        let e = marks[i];
+    for e in &marks {
         if e.places / bit % 2 == 1 {
             if e.letters == letters {
                 let mark = e.mark;
@@ -218,7 +214,6 @@ pub fn find_mark(letters: u32, place: Place) -> Option<Matched>
                 });
             }
         }
-        i += 1;
     }
     None
 }
@@ -229,13 +224,13 @@ pub fn field_count(letters: u32) -> usize
     ensures { (result ≡ field_count letters) × (result < 256) }
 {
     if let Some(Matched { count, .. }) = find_mark(letters, Place::Statement) {
-        return from_u8(count);
+        return usize::from(count);
     }
     if let Some(Matched { count, .. }) = find_mark(letters, Place::Declaration) {
-        return from_u8(count);
+        return usize::from(count);
     }
     if let Some(Matched { count, .. }) = find_mark(letters, Place::Formal) {
-        return from_u8(count);
+        return usize::from(count);
     }
     2
 }

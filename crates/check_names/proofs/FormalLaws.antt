@@ -20,7 +20,7 @@ use Rattle.check_records.specs.declared.Reading.TheVariants.{Taken, Refused}
 use Rattle.check_marks.specs.Marks.{only_mark}
 use Rattle.check_records.specs.Taking.{unread, record_at, forget}
 use Rattle.check_records.proofs.Steps.{Step, stepped, stopped}
-use Rattle.language.specs.Faults.{fault, Progress}
+use Rattle.language.specs.Faults.{fault}
 use Rattle.check_names.specs.Naming.{names_at, NamesOf}
 use Rattle.check_names.proofs.Names.{names-added}
 use Rattle.check_names.proofs.SameNames.{formals-same, same-snoc}

@@ -88,7 +88,7 @@ module _ {bs : List ℕ} {p start base : ℕ} {names : List ℕ} {at i : ℕ} (s
         go : (q : Progress) (y : Reading) → take base (names_with q y names (base + i)) ≡ take base names
         go (Ok n) (Taken m next f0 f1 f2 f3) = front-set names base i f0
         go (Ok n) (Refused c o) = refl
-        go (Err (fault c o)) y = refl
+        go (Err e) y = refl
 
     pub goes_on : {next : ℕ} → r ≡ Ok next → SoFar bs p start base names' next (i + 1)
     goes_on e = subst (λ (q : Progress). After q names') e after

@@ -4,3 +4,4 @@ pub mod KindTests
 pub mod FormalLaws
 pub mod HoldingLaws
 pub mod Rows
+pub mod Exits

@@ -3,10 +3,10 @@
 use mathlib.Core.Path.{◌≡◌, refl, sym, ◌∙◌, ap}
 use mathlib.Core.Bool.{Bool, true, false}
 use mathlib.Core.List.{List, [], ◌∷◌, ◌++◌}
-use Prim.Native.Nat.{ℕ, suc, ◌+◌, ◌-◌, ◌<◌, ◌≤◌}
+use Prim.Native.Nat.{ℕ, ◌+◌, ◌-◌, ◌<◌, ◌≤◌}
 use native.Mathlib.Omega.{arith}
 use native.Mathlib.Numerals.{add-one}
-use lib.ListN.{length, get_or, take, drop, set, length-drop}
+use lib.ListN.{length, get_or, take, drop, set, length-drop, drop_of_length-le}
 use lib.Seq.{drop-cons, take-add, take-take, drop_at, length-take-le, take-suc-set, drop-set-add, take-set-le}
 use borrow.Author.Tests.{eq-eqb, ne_eqb}
 use Rattle.language.specs.Basics.{among}
@@ -25,38 +25,25 @@ among-miss : (n x : ℕ) (xs : List ℕ) → (x ≡ n → ⊥) → among n (x �
 unfolding among
 among-miss n x xs e = rw (ne_eqb n x (λ q. e (sym q)), among)
 
-module _ (ns : List ℕ) (n base count i : ℕ) (more : i < count) (there : base + i < length ns) where
-  split : take (count - i) (drop (base + i) ns) ≡ get_or ns (base + i) 0 ∷ take (count - (i + 1)) (drop (base + (i + 1)) ns)
-  split = rw (drop-cons ns (base + i) 0 there, one_less_lem, ← one_more) refl
-    where
-      one_less_lem : count - i ≡ suc (count - (i + 1))
-      one_less_lem = omega arith
-
-      one_more : base + (i + 1) ≡ suc (base + i)
-      one_more = omega arith
-
-  pub seen-hit : get_or ns (base + i) 0 ≡ n → among n (take (count - i) (drop (base + i) ns)) ≡ true
-  seen-hit e = ap (among n) split ∙ among-hit n _ _ e
-
-  pub seen-miss : (get_or ns (base + i) 0 ≡ n → ⊥) → among n (take (count - i) (drop (base + i) ns)) ≡ among n (take (count - (i + 1)) (drop (base + (i + 1)) ns))
-  seen-miss e = ap (among n) split ∙ among-miss n _ _ e
-
-pub seen_start : (ns : List ℕ) (n base count : ℕ) → among n (names_at ns base count) ≡ among n (take (count - 0) (drop (base + 0) ns))
+-- the names of a level as a slice
+pub names_slice : (ns : List ℕ) (base count : ℕ) → take (base + count - base) (drop base ns) ≡ names_at ns base count
 unfolding names_at
-seen_start ns n base count = rw (less_none, more-none)
+names_slice ns base count = ap (λ k. take k (drop base ns)) same
   where
-    less_none : count - 0 ≡ count
-    less_none = omega arith
+    same : base + count - base ≡ count
+    same = omega arith
 
-    more-none : base + 0 ≡ base
-    more-none = omega arith
+-- among the names from i on, where the one at i is looked at
+module _ (xs : List ℕ) (n i : ℕ) where
+  pub seen-hit : i < length xs → get_or xs i 0 ≡ n → among n (drop i xs) ≡ true
+  seen-hit h e = ap (among n) (drop-cons xs i 0 h) ∙ among-hit n _ _ e
 
-pub seen_none : (ns : List ℕ) (n base count i : ℕ) → count ≤ i → among n (take (count - i) (drop (base + i) ns)) ≡ false
-unfolding among
-seen_none ns n base count i h = rw none_left
-  where
-    none_left : count - i ≡ 0
-    none_left = omega arith
+  pub seen-miss : i < length xs → (get_or xs i 0 ≡ n → ⊥) → among n (drop i xs) ≡ among n (drop (i + 1) xs)
+  seen-miss h e = ap (among n) (drop-cons xs i 0 h) ∙ among-miss n _ _ e ∙ ap (λ k. among n (drop k xs)) (sym (add-one i))
+
+  pub seen_none : length xs ≤ i → among n (drop i xs) ≡ false
+  unfolding among
+  seen_none h = ap (among n) (drop_of_length-le xs h)
 
 -- a name put after those held
 pub names-added : (ns : List ℕ) (base i x : ℕ) → base + i < length ns → names_at (set ns (base + i) x) base (i + 1) ≡ names_at ns base i ++ (x ∷ [])

@@ -1,4 +1,4 @@
--- The enums of `check_records` as data, for proofs by hand; and by cases on one.
+-- The readings of `check_records` as data, for proofs by hand; and by cases on one, and on where reading goes on.
 use Rattle.std.specs.Prelude.{Ok, Err}
 use Prim.Native.Nat.{ℕ}
 use mathlib.Core.Path.{◌≡◌, refl}
@@ -10,14 +10,9 @@ use Rattle.language.specs.Faults.{fault, Progress}
 use Rattle.walks.specs.Data.{Datum, enums}
 use Rattle.check_records.specs.contracts.Reading as R
 use Rattle.check_records.proofs.Reading.TheLaws as R'
-use Rattle.check_records.specs.contracts.Progress as P
-use Rattle.check_records.proofs.Progress.TheLaws as P'
 
 abbrev pub readings : Datum
 readings = enums R.the_type R'.the_laws R'.the_plain tt
-
-abbrev pub progresses : Datum
-progresses = enums P.the_type P'.the_laws P'.the_plain tt
 
 pub by-progress : {X : Type 1} (r : Progress) → ((at : ℕ) → r ≡ Ok at → X) → ((c : Refusal) (o : ℕ) → r ≡ Err (fault c o) → X) → X
 by-progress (Ok at) f g = f at refl

@@ -59,11 +59,9 @@ pub fn read_formals(
     ensures keeps { take base names.new ≡ take base names.old }
 {
     let mut reader = Reader { script, at };
-    let mut i = 0;
-    while i < p {
+    for i in 0..p {
         let reading = formal_here(reader);
         reader.at = hold(names, base, i, reader.at, reading)?;
-        i += 1;
     }
     Ok(reader.at)
 }

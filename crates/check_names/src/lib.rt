@@ -15,12 +15,10 @@ pub fn seen(names: &[u32], base: usize, count: usize, n: u32) -> bool
     ensures { result ≡ among n (names_at names.now base count) }
 {
     let mut found = false;
-    let mut i = 0;
-    while i < count {
-        if names[base + i] == n {
+    for &name in &names[base..base + count] {
+        if name == n {
             found = true;
         }
-        i += 1;
     }
     found
 }

@@ -11,7 +11,7 @@ use check_marks::Place;
 use check_records::{Reading, block_at, declaration_at, fields_from, formal_at, statement_at};
 use language::{Fault, Refusal};
 
-// The record at the reader's position, by the place where it stands.
+// The record at the position of the reader, by the place where it stands: a thin function for each place, as document 01 names them.
 fn block_here<'a>(r: Reader<'a>) -> Reading
     ensures { (result ≡ record_at Place.Block r.entry.script.now r.entry.at) × Within (length r.entry.script.now) r.entry.at result }
 {

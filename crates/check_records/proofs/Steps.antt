@@ -9,12 +9,12 @@ use lib.ListN.{length, get_or}
 use Rattle.language.specs.Encoding.{two}
 use Rattle.language.specs.Structure.{Reading as Outcome, read, refuse, Row, Record, take-record}
 use Rattle.language.specs.declared.Refusal.{Refusal}
-use Rattle.check_marks.specs.Marks.{fit_in}
+use Rattle.check_marks.specs.Marks.{Fit, fit_in}
 use Rattle.check_records.specs.Taking.{unread, taken}
 use Rattle.check_marks.specs.declared.Mark.{Mark}
 use Rattle.check_marks.specs.declared.Mark.TheVariants.{BK}
-use Rattle.check_marks.specs.declared.Fit.{Fit}
-use Rattle.check_marks.specs.declared.Fit.TheVariants.{Matched, Nothing}
+use Rattle.check_marks.proofs.Table.{matched}
+use Rattle.std.specs.Prelude.{Some, None}
 use Rattle.check_records.specs.declared.Reading.TheVariants.{Taken, Refused}
 use Rattle.check_records.proofs.Taking.{no-mark, misplaced, cut_off, whole}
 
@@ -28,13 +28,13 @@ module _ {M : Type 0} (rows : List (Row M)) (bs : List ℕ) (at : ℕ) where
   any_mark m = BK
 
   -- by whether the mark is there, whether it fits, and whether its fields are there
-  by-fields : (n : ℕ) (m : Mark) → at + 2 ≤ length bs → fit_in any_mark (two (get_or bs at 0) (get_or bs (at + 1) 0)) rows ≡ Matched n m → Dec (at + 2 + 2 * n ≤ length bs) → Resumes bs at (take-record rows at (unread bs at))
+  by-fields : (n : ℕ) (m : Mark) → at + 2 ≤ length bs → fit_in any_mark (two (get_or bs at 0) (get_or bs (at + 1) 0)) rows ≡ matched n m → Dec (at + 2 + 2 * n ≤ length bs) → Resumes bs at (take-record rows at (unread bs at))
   by-fields n m h e (yes fits) = rw (whole rows bs at any_mark n m h e fits) (refl, refl, omega arith, fits, omega arith)
   by-fields n m h e (no short) = rw (cut_off rows bs at any_mark n m h e (omega arith)) tt
 
   by-fit : (x : Fit) → at + 2 ≤ length bs → fit_in any_mark (two (get_or bs at 0) (get_or bs (at + 1) 0)) rows ≡ x → Resumes bs at (take-record rows at (unread bs at))
-  by-fit (Matched n m) h e = by-fields n m h e (dec_le (at + 2 + 2 * n) (length bs))
-  by-fit Nothing h e = rw (misplaced rows bs at any_mark h e) tt
+  by-fit (Some m) h e = by-fields m.count m.mark h e (dec_le (at + 2 + 2 * m.count) (length bs))
+  by-fit None h e = rw (misplaced rows bs at any_mark h e) tt
 
   by-mark : Dec (at + 2 ≤ length bs) → Resumes bs at (take-record rows at (unread bs at))
   by-mark (yes h) = by-fit (fit_in any_mark (two (get_or bs at 0) (get_or bs (at + 1) 0)) rows) h refl

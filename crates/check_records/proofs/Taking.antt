@@ -13,11 +13,12 @@ use Rattle.language.specs.Encoding.{two}
 use Rattle.language.specs.Structure.{Reading as Outcome, read, refuse, Row, Record, Reader, ◌>>=◌, give, here, fields, fit, take-record}
 use Rattle.language.specs.declared.Refusal.TheVariants.{PastTheEnd, MarkMisplaced}
 use Rattle.laws.specs.Readers.{bind-read, bind-refuse, filled}
-use Rattle.check_marks.specs.Marks.{fit_in}
+use Rattle.check_marks.specs.Marks.{Fit, fit_in}
 use Rattle.check_records.specs.Taking.{unread}
 use Rattle.check_marks.specs.declared.Mark.{Mark}
-use Rattle.check_marks.specs.declared.Fit.{Fit}
-use Rattle.check_marks.specs.declared.Fit.TheVariants.{Matched, Nothing}
+use Rattle.check_marks.specs.declared.Matched.{Matched}
+use Rattle.check_marks.proofs.Table.{matched}
+use Rattle.std.specs.Prelude.{None}
 use Rattle.check_records.proofs.Unread.{unread-drop, unread-enough, unread-short, unread-at}
 
 -- the next k fields, where they are there and where they are not
@@ -49,33 +50,34 @@ module _ {M : Type 0} (f : M → Mark) (w : ℕ) where
   unfolding fit_in
   in-skipped r rs e = rw (e, fit_in)
 
-  in-given : (r : Row M) (rs : List (Row M)) → eqb w r.letters ≡ true → fit_in f w (r ∷ rs) ≡ Matched r.count (f r.mark)
+  in-given : (r : Row M) (rs : List (Row M)) → eqb w r.letters ≡ true → fit_in f w (r ∷ rs) ≡ matched r.count (f r.mark)
   unfolding fit_in
   in-given r rs e = rw (e, fit_in)
 
-  found_nothing : {n : ℕ} {m : Mark} (x : Fit) → x ≡ Matched n m → x ≡ Nothing → ⊥
+  found_nothing : {n : ℕ} {m : Mark} (x : Fit) → x ≡ matched n m → x ≡ None → ⊥
   found_nothing x p q = let z : ◌≡◌ {A = ℕ} 0 1 = cc in omega arith
 
-  unfit-cons : (r : Row M) (rs : List (Row M)) (o at : ℕ) (ws : List ℕ) (b : Bool) → eqb w r.letters ≡ b → fit_in f w (r ∷ rs) ≡ Nothing → (fit_in f w rs ≡ Nothing → fit o w rs at ws ≡ refuse MarkMisplaced o) → fit o w (r ∷ rs) at ws ≡ refuse MarkMisplaced o
+  unfit-cons : (r : Row M) (rs : List (Row M)) (o at : ℕ) (ws : List ℕ) (b : Bool) → eqb w r.letters ≡ b → fit_in f w (r ∷ rs) ≡ None → (fit_in f w rs ≡ None → fit o w rs at ws ≡ refuse MarkMisplaced o) → fit o w (r ∷ rs) at ws ≡ refuse MarkMisplaced o
   unfit-cons r rs o at ws true q e ih = absurd (found_nothing (fit_in f w (r ∷ rs)) (in-given r rs q) e)
   unfit-cons r rs o at ws false q e ih = ap (λ (g : ℕ → List ℕ → Outcome (Row M)). g at ws) (skipped r rs q o) ∙ ih (sym (in-skipped r rs q) ∙ e)
 
-  pub unfit : (rows : List (Row M)) → fit_in f w rows ≡ Nothing → (o at : ℕ) (ws : List ℕ) → fit o w rows at ws ≡ refuse MarkMisplaced o
+  pub unfit : (rows : List (Row M)) → fit_in f w rows ≡ None → (o at : ℕ) (ws : List ℕ) → fit o w rows at ws ≡ refuse MarkMisplaced o
   unfolding fit
   unfit [] e o at ws = refl
   unfit (r ∷ rs) e o at ws = unfit-cons r rs o at ws (eqb w r.letters) refl e (λ e'. unfit rs e' o at ws)
 
-  fitted-cons : (n : ℕ) (m : Mark) (r : Row M) (rs : List (Row M)) (b : Bool) → eqb w r.letters ≡ b → fit_in f w (r ∷ rs) ≡ Matched n m → (fit_in f w rs ≡ Matched n m → Fitting f w rs n m) → Fitting f w (r ∷ rs) n m
+  fitted-cons : (n : ℕ) (m : Mark) (r : Row M) (rs : List (Row M)) (b : Bool) → eqb w r.letters ≡ b → fit_in f w (r ∷ rs) ≡ matched n m → (fit_in f w rs ≡ matched n m → Fitting f w rs n m) → Fitting f w (r ∷ rs) n m
   fitted-cons n m r rs true q e ih =
-      let i : Matched r.count (f r.mark) ≡ Matched n m = sym (in-given r rs q) ∙ e in
-      record { row = r; count-is = cc; mark-is = cc; fits = given r rs q }
+      let i : matched r.count (f r.mark) ≡ matched n m = sym (in-given r rs q) ∙ e in
+      let j : ◌≡◌ {A = Matched} (record { count = r.count; mark = f r.mark }) (record { count = n; mark = m }) = cc in
+      record { row = r; count-is = ap (λ (x : Matched). x.count) j; mark-is = ap (λ (x : Matched). x.mark) j; fits = given r rs q }
   fitted-cons n m r rs false q e ih =
       let i = ih (sym (in-skipped r rs q) ∙ e) in
       record { row = i.row; count-is = i.count-is; mark-is = i.mark-is; fits = λ o at ws. ap (λ (g : ℕ → List ℕ → Outcome (Row M)). g at ws) (skipped r rs q o) ∙ i.fits o at ws }
 
-  pub fitted : (rows : List (Row M)) (n : ℕ) (m : Mark) → fit_in f w rows ≡ Matched n m → Fitting f w rows n m
+  pub fitted : (rows : List (Row M)) (n : ℕ) (m : Mark) → fit_in f w rows ≡ matched n m → Fitting f w rows n m
   unfolding fit_in
-  fitted [] n m e = absurd (found_nothing Nothing e refl)
+  fitted [] n m e = absurd (found_nothing None e refl)
   fitted (r ∷ rs) n m e = fitted-cons n m r rs (eqb w r.letters) refl e (fitted rs n m)
 
 -- what comes after the mark's field
@@ -110,10 +112,10 @@ module _ {M : Type 0} (rows : List (Row M)) (bs : List ℕ) (at : ℕ) where
       (fields-all at 1 at (unread bs at) (unread-enough bs at 1 h))
       ∙ rw (first_field h, unread-drop bs at 1)
 
-  pub misplaced : (f : M → Mark) → at + 2 ≤ length bs → fit_in f letters rows ≡ Nothing → take-record rows at (unread bs at) ≡ refuse MarkMisplaced at
+  pub misplaced : (f : M → Mark) → at + 2 ≤ length bs → fit_in f letters rows ≡ None → take-record rows at (unread bs at) ≡ refuse MarkMisplaced at
   misplaced f h e = marked h ∙ bind-refuse (fit at letters rows) (filled at) (at + 2) (unread bs (at + 2)) (unfit f letters rows e at (at + 2) (unread bs (at + 2)))
 
-  module _ (f : M → Mark) (n : ℕ) (m : Mark) (h : at + 2 ≤ length bs) (e : fit_in f letters rows ≡ Matched n m) where
+  module _ (f : M → Mark) (n : ℕ) (m : Mark) (h : at + 2 ≤ length bs) (e : fit_in f letters rows ≡ matched n m) where
     rowed : take-record rows at (unread bs at) ≡ filled at (fitted f letters rows n m e).row (at + 2) (unread bs (at + 2))
     rowed =
         marked h

@@ -3,18 +3,12 @@ ghost use Rattle.std.specs.Prelude.{◌≡◌, ◌+◌, ◌*◌, ◌^◌, ◌<�
 ghost use Rattle.language.specs.Encoding.{two};
 ghost use Rattle.check_records.specs.Taking.{unread};
 
-fn as_u32(x: u8) -> u32
-    ensures { (result ≡ x) × (result < 256) }
-{
-    x as u32
-}
-
 // The 16-bit field at an offset, low byte first.
 pub fn field_at(script: &[u8], at: usize) -> u32
     requires { at + 1 < length script.now }
     ensures { (result ≡ two (get_or script.now at 0) (get_or script.now (at + 1) 0)) × (result < 65536) }
 {
-    as_u32(script[at]) + 256 * as_u32(script[at + 1])
+    u32::from(script[at]) + 256 * u32::from(script[at + 1])
 }
 
 // Field k of the count fields from an offset on; 0 where there are fewer.

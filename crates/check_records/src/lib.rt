@@ -13,7 +13,8 @@ mod record;
 pub use fields::fields_from;
 pub use record::{block_at, declaration_at, formal_at, statement_at};
 
-// A record with its fields, 0 past its count, and where the next one begins; or the refusal with its offset.
+// A record with its fields, 0 past its count, and where the next one begins; or the refusal with its offset. An enum of its own: document 01
+// asks by name that each reading of a record be taken apart by `let .. else`.
 #[derive(Clone, Copy)]
 pub enum Reading {
     Taken {

@@ -6,7 +6,6 @@ use super::Reading;
 use super::fields::{field_at, field_of, marked};
 use check_marks::{Matched, Place, find_mark};
 use language::Refusal;
-use numbers::from_u8;
 
 // The record at an offset where a mark is there.
 fn take_record(script: &[u8], at: usize, place: Place) -> Reading
@@ -17,7 +16,7 @@ fn take_record(script: &[u8], at: usize, place: Place) -> Reading
         return Reading::Refused(Refusal::MarkMisplaced, at);
     };
     let from = at + 2;
-    let k = from_u8(count);
+    let k = usize::from(count);
     if script.len() - from < 2 * k {
         return Reading::Refused(Refusal::PastTheEnd, at);
     }

@@ -1,6 +1,6 @@
 -- Chains of entries: what a head and a link pass over, and an entry that is inserted or removed.
 -- Assumes nothing.
-use mathlib.Core.Path.{◌≡◌, refl, sym, ◌∙◌, ap, subst}
+use mathlib.Core.Path.{◌≡◌, sym, ◌∙◌, ap}
 use mathlib.Core.List.{List}
 use mathlib.Core.Logic.{⊎_elim, ◌⊎◌, inl, inr}
 use Prim.Native.Nat.{ℕ, zero, suc, ◌+◌, ◌-◌, ◌%◌, ◌<◌, ◌≤◌, max}
@@ -9,7 +9,7 @@ use native.Mathlib.Omega.{arith}
 use lib.ListN.{length, get_or, take, drop, set, length-set}
 use lib.Seq.{get_or-set_same, get_or-set_other, drop-set-lt, get_or-drop, get_or-take, drop-drop}
 use Rattle.check_symbols.specs.Entries.{found_in}
-use Rattle.check_symbols.specs.Chains.{Chained, Rechained}
+use Rattle.check_symbols.specs.Chains.{Chained}
 use Rattle.check_symbols.proofs.Entries.{found-later, found_none}
 
 -- a name's remainder is its entry's
@@ -213,33 +213,3 @@ none-chained es n = record {
   links = λ i k t o u b e. omega arith;
   forward = λ i t u. absurd (omega arith);
 }
-
--- entries inserted or removed one by one: what holds while those from `i` on are in the chains
-pub record Between (es₀ es : List ℕ) (base top i : ℕ) : Type 0 where
-  pub low : base ≤ i
-  pub high : i ≤ top
-  pub long : length es ≡ length es₀
-  pub moved : Rechained es₀ es i
-
-pub between_start : (es : List ℕ) (base top i : ℕ) → base ≤ i → i ≤ top → Chained es i → Between es es base top i
-between_start es base top i l u h = record { low = l; high = u; long = refl; moved = record { chained = h; same = refl } }
-
-module _ {es₀ es : List ℕ} {base top i : ℕ} (b : Between es₀ es base top i) where
-  between_step : {es' : List ℕ} {j : ℕ} → base ≤ j → j ≤ top → length es' ≡ length es → Rechained es es' j → Between es₀ es' base top j
-  between_step l u n r =
-      record { low = l; high = u; long = n ∙ b.long; moved = record { chained = r.chained; same = r.same ∙ b.moved.same } }
-
-  pub before-step : {es' : List ℕ} → base < i → length es' ≡ length es → Rechained es es' (i - 1) → Between es₀ es' base top (i - 1)
-  before-step l n r = between_step (omega arith) (omega (arith, b.high)) n r
-
-  pub after-step : {es' : List ℕ} → i < top → length es' ≡ length es → Rechained es es' (i + 1) → Between es₀ es' base top (i + 1)
-  after-step l n r = between_step (omega (arith, b.low)) (omega arith) n r
-
-  pub before_last : base < i → Chained es (i - 1 + 1)
-  before_last l = let e : i ≡ i - 1 + 1 = omega arith in subst (Chained es) e b.moved.chained
-
-  pub before-end : i ≤ base → Rechained es₀ es base
-  before-end l = let e : i ≡ base = omega (arith, b.low) in subst (Rechained es₀ es) e b.moved
-
-  pub after-end : top ≤ i → Rechained es₀ es top
-  after-end l = let e : i ≡ top = omega (arith, b.high) in subst (Rechained es₀ es) e b.moved

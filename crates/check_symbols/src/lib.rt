@@ -12,11 +12,7 @@ pub fn empty_chains(entries: &mut [usize])
     requires { length entries.old ≡ 1280 }
     ensures { Chained entries.new 1280 }
 {
-    let mut h = 0;
-    while h < 256 {
-        entries[h] = 1280;
-        h += 1;
-    }
+    entries[..256].fill(1280);
 }
 
 // An entry: a name, and the number kept of it.
@@ -92,9 +88,7 @@ pub fn insert(entries: &mut [usize], base: usize, top: usize)
     requires { Chained entries.old top × (768 ≤ base) × (base ≤ top) × (top ≤ 1280) }
     ensures { Rechained entries.old entries.new base }
 {
-    let mut i = top;
-    while base < i {
-        i -= 1;
+    for i in (base..top).rev() {
         insert_one(entries, i);
     }
 }
@@ -112,9 +106,7 @@ pub fn remove(entries: &mut [usize], base: usize, top: usize)
     requires { Chained entries.old base × (base ≤ top) × (top ≤ 1280) }
     ensures { Rechained entries.old entries.new top }
 {
-    let mut i = base;
-    while i < top {
+    for i in base..top {
         remove_one(entries, i);
-        i += 1;
     }
 }

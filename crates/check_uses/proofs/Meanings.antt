@@ -5,19 +5,21 @@ use mathlib.Core.Path.{◌≡◌, refl, sym, ap, ◌∙◌}
 use mathlib.Core.Bool.{Bool, true, false}
 use mathlib.Core.List.{List, [], ◌∷◌}
 use mathlib.Core.Option.{Option, none, some}
-use Prim.Native.Nat.{ℕ, zero, suc, ◌+◌, ◌%◌, ◌<◌, ◌≤◌}
+use Prim.Native.Nat.{ℕ, ◌+◌, ◌%◌}
 use native.Mathlib.Omega.{arith}
 use lib.Dec.{eqb}
 use borrow.Author.Tests.{eq-eqb, ne_eqb}
 use Rattle.language.specs.Basics.{lookup}
 use Rattle.language.specs.Text.{Kind, variable, label, procedure, same_kind}
-use Rattle.language.specs.Encoding.{kind_field, LB-mark, PR-mark, FM-mark}
+use Rattle.language.specs.Encoding.{LB-mark, PR-mark, FM-mark}
 use Rattle.language.specs.Scope.{Meaning, fine, wrong, of_kind}
 use Rattle.language.specs.Scope as definitions
 use Rattle.language.specs.declared.Refusal.TheVariants.{NotVisible, WrongKind}
 use Rattle.laws.specs.Fields.{field_at}
 use Rattle.language.specs.Faults.{fault, Verdict}
-use Rattle.check_uses.specs.Meanings.{kind_from, kinds_at, meaning_at, scope_of, verdict_of}
+use Rattle.check_uses.specs.declared.Kind as code
+use Rattle.check_uses.specs.declared.Kind.TheVariants.{Variable, Label, Procedure}
+use Rattle.check_uses.specs.Meanings.{kind_from, kind_meant, kinds_at, meaning_at, scope_of, verdict_of}
 use Rattle.check_symbols.specs.Entries.{found_in}
 use Rattle.check_symbols.specs.Entries.{Binding}
 
@@ -34,22 +36,6 @@ pub found-lookup : (bs : List ℕ) (n : ℕ) (es : List ℕ) → lookup n (scope
 unfolding found_in scope_of lookup
 found-lookup bs n [] = refl
 found-lookup bs n (e ∷ es) = found-case bs n e es (eqb n (e % 65536)) refl (found-lookup bs n es)
-
-pub kind-is : (x : ℕ) → x ≤ 2 → x ≡ kind_field (kind_from x)
-unfolding kind_field
-kind-is zero h = refl
-kind-is (suc zero) h = refl
-kind-is (suc (suc zero)) h = refl
-kind-is (suc (suc (suc x))) h = absurd (omega arith)
-
-pub kind-small : (x : ℕ) → x < 2 → x ≡ kind_field (kind_from x)
-kind-small x h = kind-is x (omega arith)
-
-pub kind-large : (x : ℕ) → 2 ≤ x → 2 ≡ kind_field (kind_from x)
-unfolding kind_field
-kind-large zero h = absurd (omega arith)
-kind-large (suc zero) h = absurd (omega arith)
-kind-large (suc (suc x)) h = refl
 
 module _ (bs : List ℕ) (place : ℕ) where
   pub means-PR : field_at bs place ≡ PR-mark → meaning_at bs place ≡ record { kind = procedure; takes = some (kinds_at bs (place + 6) (field_at bs (place + 4))) }
@@ -70,39 +56,51 @@ module _ (bs : List ℕ) (place : ℕ) where
 
 -- the kind that a record declares, by its mark as it was read
 module _ (bs : List ℕ) (place mark : ℕ) (read : mark ≡ field_at bs place) where
-  pub kind-PR : mark ≡ PR-mark → 2 ≡ kind_field (meaning_at bs place).kind
-  unfolding kind_field
+  pub kind-PR : mark ≡ PR-mark → procedure ≡ (meaning_at bs place).kind
   kind-PR e = rw (means-PR bs place (sym read ∙ e))
 
-  pub kind-LB : mark ≡ LB-mark → 1 ≡ kind_field (meaning_at bs place).kind
-  unfolding kind_field
+  pub kind-LB : mark ≡ LB-mark → label ≡ (meaning_at bs place).kind
   kind-LB e = rw (means-LB bs place (sym read ∙ e))
 
-  pub kind-FM : (x r : ℕ) → mark ≡ FM-mark → x ≡ field_at bs (place + 4) → r ≡ kind_field (kind_from x) → r ≡ kind_field (meaning_at bs place).kind
-  kind-FM x r e f q =
-      q ∙ ap (λ (y : ℕ). kind_field (kind_from y)) f ∙ sym (ap (λ (m : Meaning). kind_field m.kind) (means-FM bs place (sym read ∙ e)))
+  pub kind-FM : (x : ℕ) (k : Kind) → mark ≡ FM-mark → x ≡ field_at bs (place + 4) → k ≡ kind_from x → k ≡ (meaning_at bs place).kind
+  kind-FM x k e f q =
+      q ∙ ap kind_from f ∙ sym (ap (λ (m : Meaning). m.kind) (means-FM bs place (sym read ∙ e)))
 
-  pub kind-other : (mark ≡ PR-mark → ⊥) → (mark ≡ LB-mark → ⊥) → (mark ≡ FM-mark → ⊥) → 0 ≡ kind_field (meaning_at bs place).kind
-  unfolding kind_field
+  pub kind-other : (mark ≡ PR-mark → ⊥) → (mark ≡ LB-mark → ⊥) → (mark ≡ FM-mark → ⊥) → variable ≡ (meaning_at bs place).kind
   kind-other e f g = rw (means-other bs place (λ p. e (read ∙ p)) (λ p. f (read ∙ p)) (λ p. g (read ∙ p)))
 
-same_kind_lem : (k j : Kind) → same_kind k j ≡ eqb (kind_field j) (kind_field k)
-unfolding same_kind kind_field
-same_kind_lem variable variable = refl
-same_kind_lem variable label = refl
-same_kind_lem variable procedure = refl
-same_kind_lem label variable = refl
-same_kind_lem label label = refl
-same_kind_lem label procedure = refl
-same_kind_lem procedure variable = refl
-same_kind_lem procedure label = refl
-same_kind_lem procedure procedure = refl
+same-kind : (k : Kind) → same_kind k k ≡ true
+unfolding same_kind
+same-kind variable = refl
+same-kind label = refl
+same-kind procedure = refl
 
-pub kinds-agree : (k j : Kind) → kind_field j ≡ kind_field k → same_kind k j ≡ true
-kinds-agree k j e = same_kind_lem k j ∙ eq-eqb _ _ e
+pub kinds-agree : (k j : Kind) → j ≡ k → same_kind k j ≡ true
+kinds-agree k j e = rw e (same-kind k)
 
-pub kinds-differ : (k j : Kind) → (kind_field j ≡ kind_field k → ⊥) → same_kind k j ≡ false
-kinds-differ k j e = same_kind_lem k j ∙ ne_eqb _ _ e
+pub kinds-differ : (k j : Kind) → (j ≡ k → ⊥) → same_kind k j ≡ false
+unfolding same_kind
+kinds-differ variable variable e = absurd (e refl)
+kinds-differ variable label e = refl
+kinds-differ variable procedure e = refl
+kinds-differ label variable e = refl
+kinds-differ label label e = absurd (e refl)
+kinds-differ label procedure e = refl
+kinds-differ procedure variable e = refl
+kinds-differ procedure label e = refl
+kinds-differ procedure procedure e = absurd (e refl)
+
+-- the code's kinds are told apart as the definitions' are
+pub meant_apart : (k j : code.Kind) → kind_meant k ≡ kind_meant j → k ≡ j
+meant_apart Variable Variable e = refl
+meant_apart Variable Label e = cc
+meant_apart Variable Procedure e = cc
+meant_apart Label Variable e = cc
+meant_apart Label Label e = refl
+meant_apart Label Procedure e = cc
+meant_apart Procedure Variable e = cc
+meant_apart Procedure Label e = cc
+meant_apart Procedure Procedure e = refl
 
 -- a use, by what is found
 module _ (bs : List ℕ) (es : List ℕ) (at : ℕ) (k : Kind) (n : ℕ) where
@@ -110,25 +108,25 @@ module _ (bs : List ℕ) (es : List ℕ) (at : ℕ) (k : Kind) (n : ℕ) where
   unfolding definitions.uses of_kind
   use-none e = rw (found-lookup bs n es, e)
 
-  pub use-right : (place : ℕ) → found_in n es ≡ Some place → kind_field (meaning_at bs place).kind ≡ kind_field k → definitions.uses (scope_of bs es) at k n ≡ fine
+  pub use-right : (place : ℕ) → found_in n es ≡ Some place → (meaning_at bs place).kind ≡ k → definitions.uses (scope_of bs es) at k n ≡ fine
   unfolding definitions.uses of_kind
   use-right place e f = rw (found-lookup bs n es, e, kinds-agree k (meaning_at bs place).kind f, of_kind)
 
-  use-wrong : (place : ℕ) → found_in n es ≡ Some place → (kind_field (meaning_at bs place).kind ≡ kind_field k → ⊥) → definitions.uses (scope_of bs es) at k n ≡ wrong WrongKind at
+  use-wrong : (place : ℕ) → found_in n es ≡ Some place → ((meaning_at bs place).kind ≡ k → ⊥) → definitions.uses (scope_of bs es) at k n ≡ wrong WrongKind at
   unfolding definitions.uses of_kind
   use-wrong place e f = rw (found-lookup bs n es, e, kinds-differ k (meaning_at bs place).kind f, of_kind)
 
 -- the same as the code has it
-module _ (bs es : List ℕ) (at k n : ℕ) (b : Binding) (found : b ≡ found_in n es) where
+module _ (bs es : List ℕ) (at : ℕ) (k : code.Kind) (n : ℕ) (b : Binding) (found : b ≡ found_in n es) where
   abbrev judged : Verdict
-  judged = verdict_of (definitions.uses (scope_of bs es) at (kind_from k) n)
+  judged = verdict_of (definitions.uses (scope_of bs es) at (kind_meant k) n)
 
   pub used-none : b ≡ None → Err (fault NotVisible at) ≡ judged
-  used-none e = sym (ap verdict_of (use-none bs es at (kind_from k) n (sym found ∙ e)))
+  used-none e = sym (ap verdict_of (use-none bs es at (kind_meant k) n (sym found ∙ e)))
 
-  module _ (place x : ℕ) (there : b ≡ Some place) (is : x ≡ kind_field (meaning_at bs place).kind) (small : k ≤ 2) where
-    pub used-right : x ≡ k → Ok tt ≡ judged
-    used-right e = sym (ap verdict_of (use-right bs es at (kind_from k) n place (sym found ∙ there) (sym is ∙ e ∙ kind-is k small)))
+  module _ (place : ℕ) (j : code.Kind) (there : b ≡ Some place) (is : kind_meant j ≡ (meaning_at bs place).kind) where
+    pub used-right : j ≡ k → Ok tt ≡ judged
+    used-right e = sym (ap verdict_of (use-right bs es at (kind_meant k) n place (sym found ∙ there) (sym is ∙ ap kind_meant e)))
 
-    pub used-wrong : (x ≡ k → ⊥) → Err (fault WrongKind at) ≡ judged
-    used-wrong e = sym (ap verdict_of (use-wrong bs es at (kind_from k) n place (sym found ∙ there) (λ p. e (is ∙ p ∙ sym (kind-is k small)))))
+    pub used-wrong : (j ≡ k → ⊥) → Err (fault WrongKind at) ≡ judged
+    used-wrong e = sym (ap verdict_of (use-wrong bs es at (kind_meant k) n place (sym found ∙ there) (λ p. e (meant_apart j k (is ∙ p)))))

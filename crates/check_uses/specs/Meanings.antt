@@ -8,11 +8,19 @@ use Rattle.language.specs.Scope.{Meaning, Scope, fine, wrong, uses, ◌then◌}
 use Rattle.language.specs.Scope as definitions
 use Rattle.language.specs.Faults.{fault, Verdict}
 use Rattle.laws.specs.Fields.{field_at}
+use Rattle.check_uses.specs.declared.Kind as code
+use Rattle.check_uses.specs.declared.Kind.TheVariants.{Variable, Label, Procedure}
 
 abbrev pub kind_from : ℕ → Kind
 kind_from zero = variable
 kind_from (suc zero) = label
 kind_from (suc (suc n)) = procedure
+
+-- the definitions' kind for the code's
+abbrev pub kind_meant : code.Kind → Kind
+kind_meant Variable = variable
+kind_meant Label = label
+kind_meant Procedure = procedure
 
 -- the kinds of so many formals from an offset on
 unfoldable pub kinds_at : List ℕ → ℕ → ℕ → List Kind

@@ -18,13 +18,10 @@ fn take(code: &[u32; 4096], names: &mut [u32; 4096], from: usize, count: usize)
     ensures taken { names.new ≡ taken (word_there code.now) names.old from count }
     ensures long { length names.new ≡ 4096 }
 {
-    let mut i = 0;
-    while i < count {
-        let place = from + i;
+    for place in from..from + count {
         if place < 4096 {
             names[place] = code[place];
         }
-        i += 1;
     }
 }
 

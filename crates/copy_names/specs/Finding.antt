@@ -2,7 +2,7 @@
 -- uses, `cell-of-looked` of any name that designates something. What is noted stays right: `new-names-kept`, `new-names-more`, `new-names-start`.
 use Rattle.std.specs.Prelude.{ℕ, zero, suc, pred, ◌+◌, ◌*◌, ◌/◌, ◌%◌, ◌≤◌, ◌<◌, Bool, true, false, List, [], ◌∷◌, ◌≡◌, refl, eqb, length, get_or, set}
 use Rattle.std.proofs.Common.{arith, ◌∙◌, subst, eqb-true, get_or-set_same, get_or-set_other}
-use Rattle.std.proofs.Math.Option.{none, some}
+use Rattle.std.proofs.Math.Option.{some}
 use Rattle.std.proofs.Math.Path.{sym, ap}
 use Rattle.std.proofs.lemmas.Bool.{eqb-false}
 use Rattle.std.proofs.Math.ListN.{get_elem?, length-map}

@@ -5,7 +5,7 @@
 ghost use Rattle.std.specs.Prelude.{◌≡◌, ◌+◌, ◌-◌, ◌≤◌, ◌<◌, ◌^◌, get_or};
 ghost use Rattle.copy_names.specs.Owner.{owner_in, cell_in, Sorted, Findable, Innermost};
 
-use numbers::{from_u16, from_u32};
+use numbers::from_u32;
 
 // The first new name of an activation.
 pub fn first_of(firsts: &[u32; 256], activation: usize) -> usize
@@ -15,22 +15,12 @@ pub fn first_of(firsts: &[u32; 256], activation: usize) -> usize
     from_u32(firsts[activation])
 }
 
-// The activation below the innermost one that declares a name.
+// The activation below the innermost one that declares a name: so many above the program's have a first new name not above it.
 fn outer_owner(firsts: &[u32; 256], live: usize, name: usize) -> usize
-    requires { (live ≤ 255) × Sorted firsts.now live × (name < get_or firsts.now live 0) }
+    requires { (1 ≤ live) × (live ≤ 255) × Sorted firsts.now live × (name < get_or firsts.now live 0) }
     ensures { (result ≡ owner_in firsts.now live name) × (result ≤ live) }
 {
-    let mut low = 0;
-    let mut high = live;
-    while 1 < high - low {
-        let middle = (low + high) / 2;
-        if first_of(firsts, middle) <= name {
-            low = middle;
-        } else {
-            high = middle;
-        }
-    }
-    low
+    firsts[1..live].partition_point(|first| from_u32(*first) <= name)
 }
 
 // The cell of a name that an activation declares: its names have one cell after the other.
@@ -38,7 +28,7 @@ fn cell_in(firsts: &[u32; 256], starts: &[u16; 256], home: usize, name: usize) -
     requires { (home ≤ 255) × (get_or firsts.now home 0 ≤ name) × (get_or starts.now home 0 + (name - get_or firsts.now home 0) < 8192) }
     ensures { result ≡ get_or starts.now home 0 + (name - get_or firsts.now home 0) }
 {
-    from_u16(starts[home]) + (name - first_of(firsts, home))
+    usize::from(starts[home]) + (name - first_of(firsts, home))
 }
 
 // The cell of an activation's first new name.
@@ -46,7 +36,7 @@ pub fn start_of(starts: &[u16; 256], activation: usize) -> usize
     requires { activation < 256 }
     ensures { result ≡ get_or starts.now activation 0 }
 {
-    from_u16(starts[activation])
+    usize::from(starts[activation])
 }
 
 // The cell of a name. The innermost activation's first new name and that name's cell are read once for all names of a statement.

@@ -10,20 +10,6 @@ ghost use Rattle.copy_texts.specs.Copying.{Renewable, Copyable};
 use layout::{formal_of, level_of, position_of, target_of};
 use numbers::from_u32;
 
-fn narrow(x: usize) -> u16
-    requires { x < 65536 }
-    ensures { result ≡ x }
-{
-    x as u16
-}
-
-fn name_of(x: usize) -> u32
-    requires { x < 4294967296 }
-    ensures { result ≡ x }
-{
-    x as u32
-}
-
 // What a field becomes in a copy. A name of the level becomes a new one, or the argument's where it is a formal; all else is kept.
 pub fn renew(area: &[u32], given: usize, level: usize, first: usize, word: usize, old: u32) -> u32
     requires { Renewable area.now given level first word }
@@ -35,7 +21,7 @@ pub fn renew(area: &[u32], given: usize, level: usize, first: usize, word: usize
     if formal_of(word) == 1 {
         return area[given + position_of(word)];
     }
-    name_of(first + position_of(word))
+    (first + position_of(word)) as u32
 }
 
 // What a declared name of the level leads to is put into its cell.
@@ -45,7 +31,7 @@ fn note(targets: &mut [u16; 8224], lowest: usize, level: usize, word: usize)
 {
     if level_of(word) == level {
         if formal_of(word) == 0 {
-            targets[lowest + position_of(word)] = narrow(target_of(word));
+            targets[lowest + position_of(word)] = target_of(word) as u16;
         }
     }
 }
@@ -68,19 +54,17 @@ pub fn copy_text(
     ensures copied { Copied area.old area.new names.now from to given level first place end }
     ensures targets_after { targets.new ≡ noted_from targets.old names.now lowest level place (end - place) }
 {
-    let mut q = place;
-    while q < end {
+    for q in place..end {
         let word = from_u32(names[q]);
         area[to + q] = renew(area, given, level, first, word, area[from + q]);
         note(targets, lowest, level, word);
-        q += 1;
     }
 }
 
 fn field(low: u8, high: u8) -> u32
     ensures { result ≡ low + 256 * high }
 {
-    low as u32 + 256 * (high as u32)
+    u32::from(low) + 256 * u32::from(high)
 }
 
 // The script's fields stand at the start of the area, a word each.
@@ -89,10 +73,7 @@ pub fn fill(script: &[u8], area: &mut [u32])
     ensures by_index { (i : ℕ) → i < length script.now / 2 → get_or area.new i 0 ≡ field_at script.now (2 * i) }
     ensures area_len_unchanged { length area.new ≡ length area.old }
 {
-    let count = script.len() / 2;
-    let mut i = 0;
-    while i < count {
+    for i in 0..script.len() / 2 {
         area[i] = field(script[2 * i], script[2 * i + 1]);
-        i += 1;
     }
 }

@@ -1,5 +1,6 @@
 -- How many names a record has, by its mark.
 -- Assumes nothing.
+use mathlib.Core.Logic.{◌⊎◌, inl, inr}
 use mathlib.Core.Path.{◌≡◌}
 use Prim.Native.Nat.{ℕ}
 use borrow.Author.Tests.{ne_eqb}
@@ -15,17 +16,22 @@ module _ (m : ℕ) where
   unfolding leading
   leading-QY e = rw e
 
-  pub leading-AD : m ≡ AD-mark → 2 ≡ leading m
+  leading-AD : m ≡ AD-mark → 2 ≡ leading m
   unfolding leading
   leading-AD e = rw e
 
-  pub leading-RM : m ≡ RM-mark → 2 ≡ leading m
+  leading-RM : m ≡ RM-mark → 2 ≡ leading m
   unfolding leading
   leading-RM e = rw e
 
-  pub leading-IF : m ≡ IF-mark → 2 ≡ leading m
+  leading-IF : m ≡ IF-mark → 2 ≡ leading m
   unfolding leading
   leading-IF e = rw e
+
+  pub leading-two : m ≡ AD-mark ⊎ (m ≡ IF-mark ⊎ m ≡ RM-mark) → 2 ≡ leading m
+  leading-two (inl e) = leading-AD e
+  leading-two (inr (inl e)) = leading-IF e
+  leading-two (inr (inr e)) = leading-RM e
 
   pub leading-other : (m ≡ BK-mark → ⊥) → (m ≡ QY-mark → ⊥) → (m ≡ AD-mark → ⊥) → (m ≡ RM-mark → ⊥) → (m ≡ IF-mark → ⊥) → 1 ≡ leading m
   unfolding leading

@@ -12,15 +12,16 @@ use Rattle.resolve_fields.specs.Taking.{word_there, taken, Gives}
 
 -- one value more, or a place past the end
 pub taken_next :
-    (value : ℕ → ℕ) (words words' ws : List ℕ) (from count i : ℕ) → i < count → words' ≡ set words (from + i) (value (from + i)) → taken value words (from + i) (count - i) ≡ ws →
-    taken value words' (from + (i + 1)) (count - (i + 1)) ≡ ws
+    (value : ℕ → ℕ) (words words' ws : List ℕ) (place end : ℕ) → place < end → words' ≡ set words place (value place) → taken value words place (end - place) ≡ ws →
+    taken value words' (place + 1) (end - (place + 1)) ≡ ws
 unfolding taken
-taken_next value words words' ws from count i l e h =
-    let k : count - i ≡ suc (count - (i + 1)) = omega arith in
-    let p : from + (i + 1) ≡ from + i + 1 = omega arith in
-    ap (λ (x : List ℕ). taken value x (from + (i + 1)) (count - (i + 1))) e
-    ∙ ap (λ (q : ℕ). taken value (set words (from + i) (value (from + i))) q (count - (i + 1))) p
-    ∙ ap (λ (n : ℕ). taken value words (from + i) n) (sym k) ∙ h
+taken_next value words words' ws place end l e h =
+    let k : end - place ≡ suc (end - (place + 1)) = omega arith in
+    ap (λ (x : List ℕ). taken value x (place + 1) (end - (place + 1))) e ∙ ap (λ (n : ℕ). taken value words place n) (sym k) ∙ h
+
+-- all are still to take
+pub taken-first : (value : ℕ → ℕ) (words : List ℕ) (from count : ℕ) → taken value words from (from + count - from) ≡ taken value words from count
+taken-first value words from count = let k : from + count - from ≡ count = omega arith in ap (taken value words from) k
 
 -- none is left to take
 pub taken-all : (value : ℕ → ℕ) (words ws : List ℕ) (p count i : ℕ) → count ≤ i → taken value words p (count - i) ≡ ws → words ≡ ws

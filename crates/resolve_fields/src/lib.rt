@@ -12,22 +12,12 @@ use check_marks::{AD, AR, BK, CL, IF, QY, RM};
 pub fn leading(mark: usize) -> usize
     ensures { (result ≡ taking.leading mark) × (result ≤ 3) }
 {
-    if mark == BK {
-        return 0;
+    match mark {
+        BK => 0,
+        QY => 3,
+        AD | RM | IF => 2,
+        _ => 1,
     }
-    if mark == QY {
-        return 3;
-    }
-    if mark == AD {
-        return 2;
-    }
-    if mark == RM {
-        return 2;
-    }
-    if mark == IF {
-        return 2;
-    }
-    1
 }
 
 // How many names stand after a record's second field.
@@ -35,11 +25,9 @@ pub fn trailing(script: &[u8], at: usize, mark: usize) -> usize
     requires { at < 8192 }
     ensures { (result ≡ taking.trailing mark (field_at script.now (at + 4))) × (result < 65536) }
 {
-    if mark == AR {
-        return 2;
+    match mark {
+        AR => 2,
+        CL => word(script, at + 4),
+        _ => 0,
     }
-    if mark == CL {
-        return word(script, at + 4);
-    }
-    0
 }

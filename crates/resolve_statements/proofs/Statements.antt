@@ -12,6 +12,7 @@ use Rattle.language.specs.Text.{Action, CL, GO, IF, KN, AR, AD, RM, QY}
 use Rattle.language.specs.Encoding.{action_fields, unsigned, CL-mark, GO-mark, IF-mark, KN-mark, AR-mark, AD-mark, RM-mark}
 use Rattle.coordinates.specs.Enclosure.{Enclosure}
 use Rattle.resolved.specs.Resolved.{formal_in, direct, chosen, name_word, resolved_action}
+use Rattle.laws.specs.Each.{Each}
 use Rattle.laws.specs.Fields.{field_at, fields_at, FieldsStand, fields-are, field_is}
 use Rattle.resolve_words.specs.Growth.{Grown}
 use Rattle.resolve_words.specs.Visible.{word_in, used_at, Short, AllShort, Shown}
@@ -44,68 +45,68 @@ op-short t a b e h k = subst Short (sym e) (chosen-short t a b h k)
 module _ (bs es : List ℕ) (at : ℕ) (c c' : List ℕ) where
   pub go-written :
       (a f op : ℕ) → a ≡ used_at bs es (at + 2) → f ≡ formal_in a → op ≡ chosen (eqb f 0) 5 14 →
-      (Short op → Short a → Grown c c' at (op ∷ a ∷ [])) → Written go_words bs es at c c'
+      (Each Short (op ∷ a ∷ []) → Grown c c' at (op ∷ a ∷ [])) → Written go_words bs es at c c'
   unfolding go_words direct
   go-written a f op ea ef eo g =
-      record { grown = λ s. subst (Grown c c' at) (cc) (g (op-short _ _ _ eo (omega arith) (omega arith)) (used-short bs es s _ ea)) }
+      record { grown = λ s. subst (Grown c c' at) (cc) (g (op-short _ _ _ eo (omega arith) (omega arith), (used-short bs es s _ ea, tt))) }
 
   pub if-written :
       (w a f k op : ℕ) → w ≡ used_at bs es (at + 2) → a ≡ used_at bs es (at + 4) → f ≡ formal_in w → k ≡ formal_in a → op ≡ chosen (eqb (f + k) 0) 4 13 →
-      (Short op → Short a → Short w → Grown c c' at (op ∷ a ∷ w ∷ [])) → Written if_words bs es at c c'
+      (Each Short (op ∷ a ∷ w ∷ []) → Grown c c' at (op ∷ a ∷ w ∷ [])) → Written if_words bs es at c c'
   unfolding if_words direct
   if-written w a f k op ew ea ef ek eo g =
       let n = none_of f k in
       record {
         grown = λ s. subst (Grown c c' at) (cc)
-            (g (op-short _ _ _ eo (omega arith) (omega arith)) (used-short bs es s _ ea) (used-short bs es s _ ew));
+            (g (op-short _ _ _ eo (omega arith) (omega arith), (used-short bs es s _ ea, (used-short bs es s _ ew, tt))));
       }
 
   pub ar-written :
       (w o a b f k m op : ℕ) → w ≡ used_at bs es (at + 2) → o ≡ field_at bs (at + 4) → o < 65536 → a ≡ used_at bs es (at + 6) → b ≡ used_at bs es (at + 8) →
       f ≡ formal_in w → k ≡ formal_in a → m ≡ formal_in b → op ≡ chosen (eqb (f + (k + m)) 0) (1 + o) 12 →
-      (Short op → Short w → Short o → Short a → Short b → Grown c c' at (op ∷ w ∷ o ∷ a ∷ b ∷ [])) → Written ar_words bs es at c c'
+      (Each Short (op ∷ w ∷ o ∷ a ∷ b ∷ []) → Grown c c' at (op ∷ w ∷ o ∷ a ∷ b ∷ [])) → Written ar_words bs es at c c'
   unfolding ar_words direct
   ar-written w o a b f k m op ew eo below ea eb ef ek em e g =
       let n = all_direct f k m in
       record {
         grown = λ s. subst (Grown c c' at) (cc)
-            (g (op-short _ _ _ e (omega arith) (omega arith)) (used-short bs es s _ ew) (omega arith) (used-short bs es s _ ea) (used-short bs es s _ eb));
+            (g (op-short _ _ _ e (omega arith) (omega arith), (used-short bs es s _ ew, (omega arith, (used-short bs es s _ ea, (used-short bs es s _ eb, tt))))));
       }
 
   pub kn-written :
       (w f op v u : ℕ) → w ≡ used_at bs es (at + 2) → f ≡ formal_in w → op ≡ chosen (eqb f 0) 0 11 → v ≡ field_at bs (at + 4) → u ≡ field_at bs (at + 6) → v < 65536 → u < 65536 →
-      (Short op → Short w → Short (v + 65536 * u) → Short 0 → Grown c c' at (op ∷ w ∷ (v + 65536 * u) ∷ 0 ∷ [])) → Written kn_words bs es at c c'
+      (Each Short (op ∷ w ∷ (v + 65536 * u) ∷ 0 ∷ []) → Grown c c' at (op ∷ w ∷ (v + 65536 * u) ∷ 0 ∷ [])) → Written kn_words bs es at c c'
   unfolding kn_words direct
   kn-written w f op v u ew ef eo ev eu lv lu g =
       record {
         grown = λ s. subst (Grown c c' at) (cc)
-            (g (op-short _ _ _ eo (omega arith) (omega arith)) (used-short bs es s _ ew) (omega arith) (omega arith));
+            (g (op-short _ _ _ eo (omega arith) (omega arith), (used-short bs es s _ ew, (omega arith, (omega arith, tt)))));
       }
 
   pub pair-written :
       (op x y : ℕ) → op < 65536 → x ≡ used_at bs es (at + 2) → y ≡ used_at bs es (at + 4) →
-      (Short op → Short x → Short y → Grown c c' at (op ∷ x ∷ y ∷ [])) → Written (pair_words op) bs es at c c'
+      (Each Short (op ∷ x ∷ y ∷ []) → Grown c c' at (op ∷ x ∷ y ∷ [])) → Written (pair_words op) bs es at c c'
   unfolding pair_words
   pair-written op x y lo ex ey g =
-      record { grown = λ s. subst (Grown c c' at) (cc) (g (omega arith) (used-short bs es s _ ex) (used-short bs es s _ ey)) }
+      record { grown = λ s. subst (Grown c c' at) (cc) (g (omega arith, (used-short bs es s _ ex, (used-short bs es s _ ey, tt)))) }
 
   pub qy-written :
       (t x y : ℕ) → t ≡ used_at bs es (at + 2) → x ≡ used_at bs es (at + 4) → y ≡ used_at bs es (at + 6) →
-      (Short 10 → Short t → Short x → Short y → Grown c c' at (10 ∷ t ∷ x ∷ y ∷ [])) → Written qy_words bs es at c c'
+      (Each Short (10 ∷ t ∷ x ∷ y ∷ []) → Grown c c' at (10 ∷ t ∷ x ∷ y ∷ [])) → Written qy_words bs es at c c'
   unfolding qy_words
   qy-written t x y et ex ey g =
       record {
-        grown = λ s. subst (Grown c c' at) (cc) (g (omega arith) (used-short bs es s _ et) (used-short bs es s _ ex) (used-short bs es s _ ey));
+        grown = λ s. subst (Grown c c' at) (cc) (g (omega arith, (used-short bs es s _ et, (used-short bs es s _ ex, (used-short bs es s _ ey, tt)))));
       }
 
   pub cl-written :
       (d : List ℕ) (w f op n : ℕ) → w ≡ used_at bs es (at + 2) → f ≡ formal_in w → op ≡ chosen (eqb f 0) 7 15 → n ≡ field_at bs (at + 4) → n < 65536 →
-      (Short op → Short w → Short n → Grown c d at (op ∷ w ∷ n ∷ [])) → Written (argument_words n) bs es (at + 6) d c' → Written cl_words bs es at c c'
+      (Each Short (op ∷ w ∷ n ∷ []) → Grown c d at (op ∷ w ∷ n ∷ [])) → Written (argument_words n) bs es (at + 6) d c' → Written cl_words bs es at c c'
   unfolding cl_words direct
   cl-written d w f op n ew ef eo en ln g h =
       record {
         grown = λ s.
-            let j = grown-then (omega arith) (g (op-short _ _ _ eo (omega arith) (omega arith)) (used-short bs es s _ ew) (omega arith)) (h.grown s) in
+            let j = grown-then (omega arith) (g (op-short _ _ _ eo (omega arith) (omega arith), (used-short bs es s _ ew, (omega arith, tt)))) (h.grown s) in
             subst (Grown c c' at) (cc) j;
       }
 

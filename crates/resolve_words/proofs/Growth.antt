@@ -2,10 +2,12 @@
 -- Assumes nothing.
 use mathlib.Core.Path.{◌≡◌, sym, ◌∙◌, ap, subst}
 use mathlib.Core.List.{List, [], ◌∷◌, ◌++◌, append_assoc}
-use Prim.Native.Nat.{ℕ, zero, suc, ◌+◌, ◌*◌, ◌-◌, ◌/◌, ◌%◌, ◌≤◌}
+use Prim.Native.Nat.{ℕ, zero, suc, ◌+◌, ◌*◌, ◌-◌, ◌/◌, ◌%◌, ◌<◌, ◌≤◌}
 use native.Mathlib.Omega.{arith}
-use lib.ListN.{length, replicate, set, length-append}
+use lib.ListN.{length, get_or, take, replicate, set, length-append}
 use lib.Seq.{set_at}
+use Rattle.std.proofs.lemmas.List.{length-take-le, take_more}
+use Rattle.laws.specs.Each.{Each, each-get_d}
 use Rattle.laws.specs.Lists.{set-append-add}
 use Rattle.resolve_words.specs.Growth.{Grown}
 use Rattle.resolve_words.specs.Visible.{Short}
@@ -69,6 +71,14 @@ grown-more {at = at} {o = o} q g h = grown-then (q ∙ two) g h
   where
     two : at + 2 ≡ at + 2 * 1
     two = omega arith
+
+-- one word more of those put one after the other
+pub grown-further :
+    {c d e : List ℕ} {at i : ℕ} (ws : List ℕ) → i < length ws → Each Short ws → e ≡ set d ((at + 2 * i) / 2) (get_or ws i 0 % 4294967296) →
+    Grown c d at (take i ws) → Grown c e at (take (i + 1) ws)
+grown-further {c} {d} {e} {at} {i} ws l s p g =
+    let long = length-take-le i ws (omega arith) in
+    subst (Grown c e at) (sym (take_more ws i 0 l)) (grown-then (omega arith) g (put-grows p (each-get_d Short ws i 0 (omega arith) s)))
 
 -- a word that was left 0 is written later
 set-inside :

@@ -1,10 +1,10 @@
 -- The entries of an enclosure give each name its word.
 -- Assumes nothing.
-use Rattle.std.specs.Prelude.{Some}
+use Rattle.std.specs.Prelude.{Some, None, unwrap_or}
 use mathlib.Core.Path.{◌≡◌, refl, sym, ◌∙◌, ap, subst}
 use mathlib.Core.List.{List, [], ◌∷◌, map}
 use mathlib.Core.Option.{Option, none, some}
-use Prim.Native.Nat.{ℕ, ◌/◌, ◌%◌, ◌<◌}
+use Prim.Native.Nat.{ℕ, ◌/◌, ◌%◌, ◌^◌, ◌<◌}
 use native.Mathlib.Omega.{arith}
 use lib.Dec.{eqb}
 use mathlib.Core.Bool.{true, false}
@@ -15,8 +15,8 @@ use Rattle.laws.specs.Tests.{split}
 use Rattle.language.specs.Basics.{lookup}
 use Rattle.coordinates.specs.Enclosure.{Enclosure}
 use Rattle.resolved.specs.Resolved.{visible_words, name_word}
-use Rattle.check_symbols.specs.Entries.{found_in}
-use Rattle.resolve_words.specs.Visible.{word_of, word_in, used_at, entry_of, Short, AllShort, Fits, Shown}
+use Rattle.check_symbols.specs.Entries.{Binding, Near, found_in}
+use Rattle.resolve_words.specs.Visible.{word_in, used_at, entry_of, Short, AllShort, Fits, Shown}
 
 module _ (n e : ℕ) (es : List ℕ) where
   found_here : eqb n (e % 65536) ≡ true → found_in n (e ∷ es) ≡ Some (e / 65536)
@@ -36,12 +36,20 @@ entry-word : (p : ℕ × ℕ) → p.0 < 65536 → entry_of p / 65536 ≡ p.1
 unfolding entry_of
 entry-word p h = omega arith
 
+-- the word of what a search found
+abbrev word_of : Binding → ℕ
+word_of b = unwrap_or b 0
+
+pub near_word : (b : Binding) → Near b → {w : ℕ} → w ≡ unwrap_or b 0 → w < 2 ^ 48
+near_word (Some place) h e = rw e h
+near_word None h e = omega arith
+
 abbrev or_zero : Option ℕ → ℕ
 or_zero none = 0
 or_zero (some w) = w
 
-found_word : (n : ℕ) (ps : List (ℕ × ℕ)) → Each Fits ps → word_of (found_in n (map entry_of ps)) ≡ or_zero (lookup n ps)
-unfolding word_of found_in lookup entry_of
+found_word : (n : ℕ) (ps : List (ℕ × ℕ)) → Each Fits ps → unwrap_or (found_in n (map entry_of ps)) 0 ≡ or_zero (lookup n ps)
+unfolding found_in lookup entry_of
 found_word n [] h = refl
 found_word n (p ∷ ps) h =
     split (eqb n p.0)

@@ -1,20 +1,15 @@
 -- The word of a visible name, from the array of their entries, and the words of a declaration's name.
-use Rattle.std.specs.Prelude.{ℕ, ◌+◌, ◌*◌, ◌<◌, List, [], ◌∷◌, map, ◌≡◌, Some, None}
+use Rattle.std.specs.Prelude.{ℕ, ◌+◌, ◌*◌, ◌<◌, List, [], ◌∷◌, map, ◌≡◌, unwrap_or}
 use Rattle.laws.specs.Each.{Each}
 use Rattle.laws.specs.Fields.{field_at}
 use Rattle.coordinates.specs.Enclosure.{Enclosure}
 use Rattle.resolved.specs.Resolved.{visible_words, name_word}
 use Rattle.check_symbols.specs.Entries.{found_in}
-use Rattle.check_symbols.specs.Entries.{Binding}
 use Rattle.resolve_words.specs.Growth.{Grown}
-
-unfoldable pub word_of : Binding → ℕ
-word_of (Some w) = w
-word_of None = 0
 
 -- the word of a name among the entries; 0 where it has none
 unfoldable pub word_in : ℕ → List ℕ → ℕ
-word_in n es = word_of (found_in n es)
+word_in n es = unwrap_or (found_in n es) 0
 
 -- the word of the name in the field at an offset
 unfoldable pub used_at : List ℕ → List ℕ → ℕ → ℕ

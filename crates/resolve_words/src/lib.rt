@@ -2,13 +2,13 @@
 // offset in the script.
 #![tactic(auto)]
 
-ghost use Rattle.std.specs.Prelude.{◌≡◌, [], ◌∷◌, ◌/◌, ◌%◌, ◌^◌, ◌<◌, drop, set};
-ghost use Rattle.check_symbols.specs.Chains.{Chained};
+ghost use Rattle.std.specs.Prelude.{◌≡◌, ◌/◌, ◌%◌, ◌^◌, ◌<◌, drop, set};
+ghost use Rattle.laws.specs.Each.{Each};
 ghost use Rattle.resolve_words.specs.Growth.{Grown};
 ghost use Rattle.resolve_words.specs.Visible.{Short, word_in, used_at, Named};
 
 use check_fields::word;
-use check_symbols::find;
+use check_uses::Scope;
 
 // Past the array's end nothing is written.
 pub fn put(code: &mut [u32], at: usize, w: usize)
@@ -20,59 +20,35 @@ pub fn put(code: &mut [u32], at: usize, w: usize)
     }
 }
 
-pub fn put_two(code: &mut [u32], at: usize, a: usize, b: usize)
-    requires { at < 2 ^ 35 }
-    ensures { Short a → Short b → Grown code.old code.new at (a ∷ b ∷ []) }
-{
-    put(code, at, a);
-    put(code, at + 2, b);
-}
-
-pub fn put_three(code: &mut [u32], at: usize, a: usize, b: usize, c: usize)
-    requires { at < 2 ^ 35 }
-    ensures { Short a → Short b → Short c → Grown code.old code.new at (a ∷ b ∷ c ∷ []) }
-{
-    put(code, at, a);
-    put(code, at + 2, b);
-    put(code, at + 4, c);
-}
-
-pub fn put_four(code: &mut [u32], at: usize, a: usize, b: usize, c: usize, d: usize)
+// So many words, each after the one before it.
+pub fn put_all(code: &mut [u32], at: usize, words: &[usize])
     requires { at < 2 ^ 34 }
-    ensures { Short a → Short b → Short c → Short d → Grown code.old code.new at (a ∷ b ∷ c ∷ d ∷ []) }
+    ensures { Each Short words.now → Grown code.old code.new at words.now }
 {
-    put_two(code, at, a, b);
-    put_two(code, at + 4, c, d);
-}
-
-pub fn put_five(code: &mut [u32], at: usize, a: usize, b: usize, c: usize, d: usize, e: usize)
-    requires { at < 2 ^ 34 }
-    ensures { Short a → Short b → Short c → Short d → Short e → Grown code.old code.new at (a ∷ b ∷ c ∷ d ∷ e ∷ []) }
-{
-    put_two(code, at, a, b);
-    put_three(code, at + 4, c, d, e);
+    for (i, w) in words.iter().enumerate() {
+        put(code, at + 2 * i, *w);
+    }
 }
 
 // The word of a name; 0 where it is not visible.
-pub fn named(entries: &[usize], top: usize, name: usize) -> usize
-    requires { Chained entries.now top }
-    ensures { (result ≡ word_in name (drop top entries.now)) × (result < 2 ^ 48) }
+pub fn named(scope: Scope<'_>, name: usize) -> usize
+    ensures { (result ≡ word_in name (drop scope.entry.top scope.entry.entries.now)) × (result < 2 ^ 48) }
 {
-    find(entries, top, name).unwrap_or(0)
+    scope.find(name).unwrap_or(0)
 }
 
 // The word of the name in the field at an offset.
-pub fn used(script: &[u8], entries: &[usize], top: usize, at: usize) -> usize
-    requires { (at < 2 ^ 33) × Chained entries.now top }
-    ensures { (result ≡ used_at script.now (drop top entries.now) at) × (result < 2 ^ 48) }
+pub fn used(scope: Scope<'_>, at: usize) -> usize
+    requires { at < 2 ^ 33 }
+    ensures { (result ≡ used_at scope.entry.script.now (drop scope.entry.top scope.entry.entries.now) at) × (result < 2 ^ 48) }
 {
-    named(entries, top, word(script, at))
+    named(scope, word(scope.script, at))
 }
 
 // The name of a declaration. Its mark's word stays 0.
-pub fn emit_name(script: &[u8], entries: &[usize], top: usize, code: &mut [u32], at: usize)
-    requires { (at < 2 ^ 32) × Chained entries.now top }
-    ensures { Named script.now (drop top entries.now) at code.old code.new }
+pub fn emit_name(scope: Scope<'_>, code: &mut [u32], at: usize)
+    requires { at < 2 ^ 32 }
+    ensures { Named scope.entry.script.now (drop scope.entry.top scope.entry.entries.now) at code.old code.new }
 {
-    put(code, at + 2, used(script, entries, top, at + 2));
+    put(code, at + 2, used(scope, at + 2));
 }

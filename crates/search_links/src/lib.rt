@@ -6,14 +6,14 @@ ghost use Rattle.std.specs.Prelude.{◌≡◌, ◌<◌, ◌≤◌, length, get_o
 ghost use Rattle.search_links.specs.Enclosing.{level_at, shallower_from, link_at, Askable, AllAskable, LinksFound};
 
 use layout::level_of;
-use numbers::{from_u16, from_u32};
+use numbers::from_u32;
 
 // The level of an activation's block.
 fn level_at(code: &[u32; 4096], blocks: &[u16; 256], k: usize) -> usize
     requires { (k < 256) × (get_or blocks.now k 0 < 4096) }
     ensures { result ≡ level_at code.now blocks.now k }
 {
-    level_of(from_u32(code[from_u16(blocks[k])]))
+    level_of(from_u32(code[usize::from(blocks[k])]))
 }
 
 // Where the search goes on after an activation that is not the program's.
@@ -21,7 +21,7 @@ fn onward(froms: &[u16; 256], k: usize) -> usize
     requires { (1 ≤ k) × (k < 256) }
     ensures { result ≡ get_or froms.now k 0 }
 {
-    from_u16(froms[k])
+    usize::from(froms[k])
 }
 
 // The first activation of a lower level, sought from an activation on.
@@ -70,9 +70,7 @@ pub fn find_links(
     requires { AllAskable blocks.now froms.now live × (length links.old ≡ 256) }
     ensures { LinksFound code.now blocks.now froms.now live links.old links.new }
 {
-    let mut k = 1;
-    while k < live {
+    for k in 1..live {
         links[k] = link_of(code, blocks, froms, k) as u16;
-        k += 1;
     }
 }

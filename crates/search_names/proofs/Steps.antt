@@ -7,7 +7,7 @@ use borrow.Author.Tests.{eqb-true, eqb-false}
 use lib.Dec.{eqb}
 use lib.ListN.{get_or}
 use Rattle.laws.specs.Tests.{split}
-use Rattle.search_names.specs.Seeking.{block_in, sought, first_at, Falls, sought-last, sought-here, sought-on}
+use Rattle.search_names.specs.Seeking.{sought, first_at, Falls, sought-last, sought-here, sought-on}
 
 pub record Asking (blocks froms : List ℕ) (from x k : ℕ) : Type 0 where
   pub within : k ≤ from
@@ -21,9 +21,6 @@ module _ (blocks froms : List ℕ) (from x k : ℕ) (a : Asking blocks froms fro
   onward falls low {b} {n} e h q =
       let l = falls.falls k (omega arith) a.within in
       record { within = omega (arith, a.within); same = ap (λ j. sought blocks froms j x) q ∙ sym (sought-on blocks froms from falls x k (omega arith) a.within (λ z. h (e ∙ z))) ∙ a.same }
-
-  pub below : Falls froms from → 0 < k → {n : ℕ} → n ≡ get_or froms k 0 → n < k
-  below falls low {n} q = let l = falls.falls k (omega arith) a.within in omega arith
 
   pub at_last : k ≤ 0 → (0 ≡ sought blocks froms from x) × (0 ≤ from)
   at_last h = let z : k ≡ 0 = omega arith in (sym (sym a.same ∙ ap (λ j. sought blocks froms j x) z ∙ sought-last blocks froms x), omega arith)
@@ -45,11 +42,6 @@ module _ (blocks froms : List ℕ) (live x : ℕ) where
   from-within falls {n} {k} q h =
       split (eqb live 0) (λ t. let z : live ≡ 0 = eqb-true live 0 t in omega (arith, q ∙ ap (λ j. get_or froms j 0) z, falls.first))
       (λ t. let d = eqb-false live 0 t in omega (arith, falls.falls live (omega (arith, d)) (omega arith)))
-
-  pub from-falls : Falls froms live → {n : ℕ} → n ≡ get_or froms live 0 → Falls froms n
-  from-falls falls {n} q =
-      let l = from-within falls {k = n} q (omega arith) in
-      record { few = omega (arith, falls.few); first = falls.first; falls = λ k low h. falls.falls k low (omega arith) }
 
   further-found : Falls froms live → {b n k : ℕ} → b ≡ get_or blocks live 0 → (b ≡ x / 32 → ⊥) → n ≡ get_or froms live 0 → k ≡ sought blocks froms n x → k ≡ sought blocks froms live x
   further-found falls {b} {n} {k} e h q f =

@@ -5,7 +5,7 @@ ghost use Rattle.std.specs.Prelude.{◌≡◌, ◌*◌, ◌<◌, ◌≤◌};
 ghost use Rattle.search_names.specs.Seeking.{sought, first_at, Falls};
 
 use layout::SHARE;
-use numbers::{from_u16, from_u32};
+use numbers::from_u32;
 
 // The activation that introduces a number, sought from an activation on.
 fn seek(blocks: &[u16; 256], froms: &[u16; 256], from: usize, number: usize) -> usize
@@ -14,10 +14,10 @@ fn seek(blocks: &[u16; 256], froms: &[u16; 256], from: usize, number: usize) -> 
 {
     let mut k = from;
     while 0 < k {
-        if from_u16(blocks[k]) == number / SHARE {
+        if usize::from(blocks[k]) == number / SHARE {
             return k;
         }
-        k = from_u16(froms[k]);
+        k = usize::from(froms[k]);
     }
     0
 }
@@ -48,8 +48,8 @@ pub fn near_cell(
     ensures { (result ≡ first_at numbers.now blocks.now froms.now live place) × (result ≤ 32 * live) }
 {
     let number = from_u32(numbers[place]);
-    if from_u16(blocks[live]) == number / SHARE {
+    if usize::from(blocks[live]) == number / SHARE {
         return SHARE * live;
     }
-    SHARE * seek(blocks, froms, from_u16(froms[live]), number)
+    SHARE * seek(blocks, froms, usize::from(froms[live]), number)
 }

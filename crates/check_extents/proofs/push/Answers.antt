@@ -1,13 +1,10 @@
--- `check_extents::push` meets its contract: the entries put so far with those still to come are those of the records. Assumes nothing.
-use Rattle.check_extents.proofs.Pushing.{pushing-start, pushing_step, pushing-end}
-use borrow.Author.Rules.{rules}
+-- The entries put so far with those still to come are those of the records.
+use Rattle.std.proofs.Common.{arith}
+use Rattle.check_extents.proofs.Pushing.{pushing_step, pushing-end}
 use Rattle.check_extents.proofs.push.Goals as goal
 
-pub loop-i-init : goal.loop-i-init
-loop-i-init c = search (rules, pushing-start)
-
-pub loop-i-preserved : goal.loop-i-preserved
-loop-i-preserved c = search (rules, pushing_step)
+pub loop-entry-preserved : goal.loop-entry-preserved
+loop-entry-preserved c = pushing_step c.loop-entry.invariant _ _ _ _ (omega arith) (omega arith) c.word.ensures.0 c.entry_of.ensures c.skip-here.ensures.skipped c.skip-here.ensures.noted
 
 pub returns : goal.returns
-returns c = search (rules, pushing-end)
+returns c = pushing-end c.loop-entry.invariant _ _ _ (omega arith) (omega arith) (omega arith) (omega arith)

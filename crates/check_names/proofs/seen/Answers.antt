@@ -1,7 +1,8 @@
-use Rattle.std.proofs.Common.{◌≡◌, refl, ◌∙◌, sym, ap, arith, rules, Bool, true, false}
-use Rattle.check_names.proofs.Names.{either, seen_start, seen-hit, seen-miss, seen_none}
+use Rattle.std.proofs.Common.{◌≡◌, refl, ◌∙◌, sym, ap, Bool, true, false}
+use Rattle.language.specs.Basics.{among}
+use Rattle.check_names.proofs.Names.{either, names_slice, seen-hit, seen-miss, seen_none}
 use Rattle.check_names.proofs.seen.Goals as goal
-use Rattle.check_names.proofs.seen.Goals.{then-names-base, else-names-base}
+use Rattle.check_names.proofs.seen.Goals.{then-name-n, else-name-n}
 
 either_true : (f : Bool) → either f true ≡ true
 either_true true = refl
@@ -21,23 +22,17 @@ missed f {z = z} p q r = p ∙ ap (either f) q ∙ sym (ap (λ (g : Bool). eithe
 done : (f : Bool) {x y : Bool} → x ≡ either f y → y ≡ false → f ≡ x
 done f p q = sym (p ∙ ap (either f) q ∙ either-false f)
 
-pub loop-i-init : goal.loop-i-init
-loop-i-init c = search (rules, seen_start)
-
-pub loop-i-preserved : goal.loop-i-preserved
-loop-i-preserved c = (
-  omega arith,
-  elim c.if-names-base.branch [
-    | then-names-base w ↦
-        hit c.loop-i.found _ c.loop-i.invariant.1
-        (seen-hit c.args.names.now c.args.n c.args.base c.args.count c.loop-i.i (omega arith) (omega arith) w.if-names-base.true) w.found-is
-    | else-names-base w ↦
-        missed c.loop-i.found c.loop-i.invariant.1
-        (seen-miss c.args.names.now c.args.n c.args.base c.args.count c.loop-i.i (omega arith) (omega arith) w.if-names-base.false) w.found-is
-  ],
-)
+pub loop-name-preserved : goal.loop-name-preserved
+loop-name-preserved c =
+    elim c.if-name-n.branch [
+      | then-name-n w ↦
+          hit c.loop-name.found _ c.loop-name.invariant (seen-hit _ c.args.n c.loop-name.name-index c.loop-name-test.true w.if-name-n.true) w.found-is
+      | else-name-n w ↦
+          missed c.loop-name.found c.loop-name.invariant
+          (seen-miss _ c.args.n c.loop-name.name-index c.loop-name-test.true w.if-name-n.false) w.found-is
+    ]
 
 pub returns : goal.returns
 returns c =
-    done c.loop-i.found c.loop-i.invariant.1
-    (seen_none c.args.names.now c.args.n c.args.base c.args.count c.loop-i.i c.loop-i-test.false)
+    done c.loop-name.found c.loop-name.invariant (seen_none _ c.args.n c.loop-name.name-index c.loop-name-test.false)
+    ∙ ap (among c.args.n) (names_slice c.args.names.now c.args.base c.args.count)

@@ -1,6 +1,6 @@
--- `check_uses::kind_at` meets its contract: a case for each mark. Assumes nothing.
+-- A case for each mark.
+use Rattle.std.proofs.Common.{rules}
 use Rattle.check_uses.proofs.Meanings.{kind-PR, kind-LB, kind-FM, kind-other}
-use borrow.Author.Rules.{rules}
 use Rattle.check_uses.proofs.kind_at.Goals as goal
 
 pub returns-then-mark-eq-PR : goal.returns-then-mark-eq-PR

@@ -8,9 +8,7 @@ loop-q-preserved c =
     let l = c.loop-q in
     let s = c.args in
     record {
-      low = omega arith;
-      high = omega arith;
-      copied = copied_more _ _ _ _ _ _ _ _ _ _ c.requires l.area l.q l.invariant.low c.loop-q-test.true l.invariant.copied
+      copied = copied_more _ _ _ _ _ _ _ _ _ _ c.requires l.area l.q (omega arith) c.loop-q-test.true l.invariant.copied
           c.from_u32-word.result c.renew.result c.from_u32-word.ensures.0 c.renew.ensures;
       noted = notes-more s.names.now s.lowest s.level l.targets c.note.new.targets l.q s.end c.from_u32-word.result
           c.loop-q-test.true c.from_u32-word.ensures.0 c.note.ensures ∙ l.invariant.noted;

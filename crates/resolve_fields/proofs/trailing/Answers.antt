@@ -1,15 +1,15 @@
--- `resolve_fields::trailing` meets its contract. Assumes nothing.
-use mathlib.Core.Path.{◌∙◌}
-use native.Mathlib.Omega.{arith}
-use borrow.Author.Rules.{rules}
+-- A case for each mark.
+use Rattle.std.proofs.Common.{◌∙◌, rules}
 use Rattle.resolve_fields.proofs.Marks.{trailing-AR, trailing-CL, trailing-other}
 use Rattle.resolve_fields.proofs.trailing.Goals as goal
 
-pub returns-then-mark-eq-CL : goal.returns-then-mark-eq-CL
-returns-then-mark-eq-CL c = (c.word.ensures.0 ∙ trailing-CL _ _ (omega arith), c.word.ensures.1)
+-- AR
+pub returns-in-21057 : goal.returns-in-21057
+returns-in-21057 c = search (rules, trailing-AR)
 
-pub returns-then-mark-eq-AR : goal.returns-then-mark-eq-AR
-returns-then-mark-eq-AR c = search (rules, trailing-AR)
+-- CL
+pub returns-in-19523 : goal.returns-in-19523
+returns-in-19523 c = (c.word.ensures.0 ∙ trailing-CL _ _ c.in-19523.is, c.word.ensures.1)
 
-pub returns : goal.returns
-returns c = search (rules, trailing-other)
+pub returns-in_default : goal.returns-in_default
+returns-in_default c = search (rules, trailing-other)

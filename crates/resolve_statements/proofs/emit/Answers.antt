@@ -1,28 +1,35 @@
--- `resolve_statements::emit` meets its contract: a case for each mark. Assumes nothing.
+-- A case for each mark.
+use Rattle.std.proofs.Common.{rules}
 use Rattle.resolve_statements.proofs.Statements.{emit-by, emit-last}
-use borrow.Author.Rules.{rules}
 use Rattle.resolve_statements.proofs.emit.Goals as goal
 
-pub returns-then-mark-eq-AR : goal.returns-then-mark-eq-AR
-returns-then-mark-eq-AR c = search (rules, emit-by)
+-- AR
+pub returns-in-21057 : goal.returns-in-21057
+returns-in-21057 c = search (rules, emit-by)
 
-pub returns-then-mark-eq-IF : goal.returns-then-mark-eq-IF
-returns-then-mark-eq-IF c = search (rules, emit-by)
+-- IF
+pub returns-in-17993 : goal.returns-in-17993
+returns-in-17993 c = search (rules, emit-by)
 
-pub returns-then-mark-eq-KN : goal.returns-then-mark-eq-KN
-returns-then-mark-eq-KN c = search (rules, emit-by)
+-- KN
+pub returns-in-20043 : goal.returns-in-20043
+returns-in-20043 c = search (rules, emit-by)
 
-pub returns-then-mark-eq-CL : goal.returns-then-mark-eq-CL
-returns-then-mark-eq-CL c = search (rules, emit-by)
+-- CL
+pub returns-in-19523 : goal.returns-in-19523
+returns-in-19523 c = search (rules, emit-by)
 
-pub returns-then-mark-eq-GO : goal.returns-then-mark-eq-GO
-returns-then-mark-eq-GO c = search (rules, emit-by)
+-- GO
+pub returns-in-20295 : goal.returns-in-20295
+returns-in-20295 c = search (rules, emit-by)
 
-pub returns-then-mark-eq-AD : goal.returns-then-mark-eq-AD
-returns-then-mark-eq-AD c = search (rules, emit-by)
+-- AD
+pub returns-in-17473 : goal.returns-in-17473
+returns-in-17473 c = search (rules, emit-by)
 
-pub returns-then-mark-eq-RM : goal.returns-then-mark-eq-RM
-returns-then-mark-eq-RM c = search (rules, emit-by)
+-- RM
+pub returns-in-19794 : goal.returns-in-19794
+returns-in-19794 c = search (rules, emit-by)
 
-pub returns : goal.returns
-returns c = search (rules, emit-last)
+pub returns-in_default : goal.returns-in_default
+returns-in_default c = search (rules, emit-last)

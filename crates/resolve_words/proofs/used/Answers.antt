@@ -6,5 +6,5 @@ use Rattle.resolve_words.proofs.used.Goals as goal
 pub returns : goal.returns
 unfolding used_at
 returns c =
-    let a = c.args in
-    (c.named.ensures.0 ∙ ap (λ (n : ℕ). word_in n (drop a.top a.entries.now)) c.word.ensures.0, c.named.ensures.1)
+    let s = c.args.scope in
+    (c.named.ensures.0 ∙ ap (λ (n : ℕ). word_in n (drop s.top s.entries.now)) c.word.ensures.0, c.named.ensures.1)
