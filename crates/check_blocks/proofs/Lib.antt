@@ -8,6 +8,5 @@ pub mod StmtLaws
 pub mod BlockLaws
 pub mod Loops
 pub mod Shapes
-pub mod Rows
 pub mod Sizes
 pub mod AtSize

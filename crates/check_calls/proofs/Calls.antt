@@ -1,22 +1,22 @@
 -- A call's arguments, one by one: visible, and of the kinds of the formals.
 -- Assumes nothing.
 use Rattle.language.specs.Faults.{fault}
-use Rattle.std.specs.Prelude.{Some, None, Ok, Err}
-use mathlib.Core.Path.{◌≡◌, sym, ◌∙◌, ap}
+use Rattle.std.specs.Prelude.{Some, None, is_some, Ok, Err}
+use mathlib.Core.Path.{◌≡◌, refl, sym, ◌∙◌, ap}
 use mathlib.Core.Bool.{Bool, true, false}
 use mathlib.Core.List.{List, [], ◌∷◌, map}
 use mathlib.Core.Option.{Option, none, some}
 use Prim.Native.Nat.{ℕ, suc, ◌+◌, ◌*◌, ◌-◌, ◌<◌, ◌≤◌}
 use native.Mathlib.Omega.{arith}
 use Rattle.language.specs.Text.{Kind}
-use Rattle.language.specs.Encoding.{kind_field}
 use Rattle.language.specs.Scope.{Scope, wrong, visible, all_visible, kind_in, agree, ◌then◌}
 use Rattle.language.specs.declared.Refusal.TheVariants.{NotVisible}
 use Rattle.laws.specs.Fields.{field_at, fields_at}
-use Rattle.check_uses.specs.Meanings.{kind_from, kinds_at, meaning_at, scope_of, verdict_of}
+use Rattle.check_uses.specs.declared.Kind as code
+use Rattle.check_uses.specs.Meanings.{kind_from, kind_meant, kinds_at, meaning_at, scope_of, verdict_of}
 use Rattle.check_symbols.specs.Entries.{found_in}
 use Rattle.check_symbols.specs.Entries.{Binding}
-use Rattle.check_uses.proofs.Meanings.{found-lookup, kinds-agree, kinds-differ}
+use Rattle.check_uses.proofs.Meanings.{found-lookup, kinds-agree, kinds-differ, meant_apart}
 
 one_less_lem : (count i : ℕ) → i < count → count - i ≡ suc (count - (i + 1))
 one_less_lem count i h = omega arith
@@ -75,11 +75,11 @@ module _ (bs es : List ℕ) where
   kind-miss n e = rw (found-lookup bs n es, e, kind_in)
 
   module _ (k : Kind) (ks : List Kind) (n : ℕ) (xs : List (Option Kind)) where
-    agree-hit : (place : ℕ) → found_in n es ≡ Some place → kind_field (meaning_at bs place).kind ≡ kind_field k → agree (k ∷ ks) (kind_in sc n ∷ xs) ≡ agree ks xs
+    agree-hit : (place : ℕ) → found_in n es ≡ Some place → (meaning_at bs place).kind ≡ k → agree (k ∷ ks) (kind_in sc n ∷ xs) ≡ agree ks xs
     unfolding agree
     agree-hit place e f = rw (kind-hit n place e, kinds-agree k (meaning_at bs place).kind f)
 
-    agree-off : (place : ℕ) → found_in n es ≡ Some place → (kind_field (meaning_at bs place).kind ≡ kind_field k → ⊥) → agree (k ∷ ks) (kind_in sc n ∷ xs) ≡ false
+    agree-off : (place : ℕ) → found_in n es ≡ Some place → ((meaning_at bs place).kind ≡ k → ⊥) → agree (k ∷ ks) (kind_in sc n ∷ xs) ≡ false
     unfolding agree
     agree-off place e f = rw (kind-hit n place e, kinds-differ k (meaning_at bs place).kind f)
 
@@ -87,39 +87,48 @@ module _ (bs es : List ℕ) where
     unfolding agree
     agree-miss e = rw (kind-miss n e)
 
+-- a name that is found, and one that is not
+is_there : (b : Binding) → is_some b ≡ true → (place : ℕ) × (b ≡ Some place)
+is_there (Some place) e = (place, refl)
+is_there None e = cc
+
+is_missing : (b : Binding) → is_some b ≡ false → b ≡ None
+is_missing (Some place) e = cc
+is_missing None e = refl
+
 -- what is left of the arguments is judged as all of them
 pub record Seeing (bs es : List ℕ) (at count i : ℕ) : Type 0 where
-  pub within : i ≤ count
   pub same : all_visible (scope_of bs es) at (fields_at bs (at + 6 + 2 * i) (count - i)) ≡ all_visible (scope_of bs es) at (fields_at bs (at + 6) count)
 
 -- and agrees where all of them do
 pub record Matching (bs es : List ℕ) (at formals count i : ℕ) : Type 0 where
-  pub within : i ≤ count
   pub same :
       agree (kinds_at bs (formals + 6 * i) (count - i)) (map (kind_in (scope_of bs es)) (fields_at bs (at + 6 + 2 * i) (count - i)))
       ≡ agree (kinds_at bs formals count) (map (kind_in (scope_of bs es)) (fields_at bs (at + 6) count))
 
 pub seeing-start : (bs es : List ℕ) (at count : ℕ) → Seeing bs es at count 0
-seeing-start bs es at count = record { within = omega arith; same = rw (words-all bs (at + 6) count) }
+seeing-start bs es at count = record { same = rw (words-all bs (at + 6) count) }
 
 pub matching-start : (bs es : List ℕ) (at formals count : ℕ) → Matching bs es at formals count 0
-matching-start bs es at formals count = record { within = omega arith; same = rw (words-all bs (at + 6) count, kinds-all bs formals count) }
+matching-start bs es at formals count = record { same = rw (words-all bs (at + 6) count, kinds-all bs formals count) }
 
 -- one argument more, or the last one looked at
 module _ (bs es : List ℕ) (at count i n : ℕ) (b : Binding) (more : i < count) (is : n ≡ field_at bs (at + 6 + 2 * i)) (found : b ≡ found_in n es) where
   arguments : fields_at bs (at + 6 + 2 * i) (count - i) ≡ n ∷ fields_at bs (at + 6 + 2 * (i + 1)) (count - (i + 1))
   arguments = words_step bs (at + 6) count i more ∙ rw is
 
-  pub seeing-step : (place : ℕ) → b ≡ Some place → Seeing bs es at count i → Seeing bs es at count (i + 1)
-  seeing-step place e r =
+  seeing-more : (place : ℕ) → b ≡ Some place → Seeing bs es at count i → Seeing bs es at count (i + 1)
+  seeing-more place e r =
       record {
-        within = omega arith;
         same = sym (visible-hit bs es at n place _ (sym found ∙ e)) ∙ ap (all_visible (scope_of bs es) at) (sym arguments) ∙ r.same;
       }
 
-  pub seeing-stop : b ≡ None → Seeing bs es at count i → Err (fault NotVisible at) ≡ verdict_of (all_visible (scope_of bs es) at (fields_at bs (at + 6) count))
+  pub seeing-step : is_some b ≡ true → Seeing bs es at count i → Seeing bs es at count (i + 1)
+  seeing-step e r = let s = is_there b e in seeing-more s.0 s.1 r
+
+  pub seeing-stop : is_some b ≡ false → Seeing bs es at count i → Err (fault NotVisible at) ≡ verdict_of (all_visible (scope_of bs es) at (fields_at bs (at + 6) count))
   seeing-stop e r =
-      sym (ap verdict_of (sym r.same ∙ ap (all_visible (scope_of bs es) at) arguments ∙ visible-miss bs es at n _ (sym found ∙ e)))
+      sym (ap verdict_of (sym r.same ∙ ap (all_visible (scope_of bs es) at) arguments ∙ visible-miss bs es at n _ (sym found ∙ is_missing b e)))
 
   module _ (formals : ℕ) (r : Matching bs es at formals count i) where
     abbrev whole : Bool
@@ -139,21 +148,21 @@ module _ (bs es : List ℕ) (at count i n : ℕ) (b : Binding) (more : i < count
 
     -- the argument's kind and the formal's, as they were read
     module _
-        (place x y k : ℕ) (there : b ≡ Some place) (read : x ≡ field_at bs (formals + 4 + 6 * i)) (asked : y ≡ kind_field (kind_from x))
-        (has : k ≡ kind_field (meaning_at bs place).kind)
+        (place x : ℕ) (k y : code.Kind) (there : b ≡ Some place) (read : x ≡ field_at bs (formals + 4 + 6 * i))
+        (asked : kind_meant y ≡ kind_from x) (has : kind_meant k ≡ (meaning_at bs place).kind)
       where
-        kind-asked : y ≡ kind_field wanted
-        kind-asked = asked ∙ ap (λ (z : ℕ). kind_field (kind_from z)) read
+        kind-asked : kind_meant y ≡ wanted
+        kind-asked = asked ∙ ap kind_from read
 
         pub matching-step : k ≡ y → Matching bs es at formals count (i + 1)
         matching-step e =
             record {
-              within = omega arith;
-              same = sym (agree-hit bs es wanted _ n _ place (sym found ∙ there) (sym has ∙ e ∙ kind-asked)) ∙ split;
+              same = sym (agree-hit bs es wanted _ n _ place (sym found ∙ there) (sym has ∙ ap kind_meant e ∙ kind-asked)) ∙ split;
             }
 
         pub matching-off : (k ≡ y → ⊥) → false ≡ whole
-        matching-off e = sym (agree-off bs es wanted _ n _ place (sym found ∙ there) (λ p. e (has ∙ p ∙ sym kind-asked))) ∙ split
+        matching-off e =
+            sym (agree-off bs es wanted _ n _ place (sym found ∙ there) (λ p. e (meant_apart k y (has ∙ p ∙ sym kind-asked)))) ∙ split
 
 -- nothing left
 pub seeing-end : {bs es : List ℕ} {at count i : ℕ} → count ≤ i → Seeing bs es at count i → Ok tt ≡ verdict_of (all_visible (scope_of bs es) at (fields_at bs (at + 6) count))

@@ -12,7 +12,7 @@ use lib.ListN.{length, length-map}
 use borrow.Author.Tests.{ne_eqb}
 use Rattle.language.specs.Basics.{lookup}
 use Rattle.language.specs.Text.{Kind, procedure, same_kind, CL}
-use Rattle.language.specs.Encoding.{kind_field, LB-mark, PR-mark, FM-mark}
+use Rattle.language.specs.Encoding.{LB-mark, PR-mark, FM-mark}
 use Rattle.language.specs.Scope.{Scope, Meaning, fine, wrong, all_visible, kind_in, agree, agrees, ◌then◌, judge_action, uses}
 use Rattle.language.specs.Scope as definitions
 use Rattle.language.specs.declared.Refusal.{Refusal}
@@ -118,7 +118,7 @@ module _ (bs es : List ℕ) (at n m : ℕ) (name : n ≡ field_at bs (at + 2)) (
 
       pub call-unfound : b ≡ None → Ok tt ≡ whole
       unfolding agrees
-      call-unfound e = judged Ok tt (rw (found-lookup bs n es, sym found ∙ e))
+      call-unfound e = judged (Ok tt) (rw (found-lookup bs n es, sym found ∙ e))
 
       pub call-found : (place : ℕ) (t : Verdict) → b ≡ Some place → t ≡ verdict_of (agrees at (some (meaning_at bs place)) (map (kind_in sc) xs)) → t ≡ whole
       call-found place t e f = judged t (rw (found-lookup bs n es, sym found ∙ e) f)
@@ -151,7 +151,7 @@ pub agreed :
     t ≡ agree (kinds_at bs (place + 6) m) (map (kind_in (scope_of bs es)) (fields_at bs (at + 6) m)) → t ≡ true →
     Ok tt ≡ verdict_of (judge_action (scope_of bs es) at (CL (field_at bs (at + 2)) (fields_at bs (at + 6) (field_at bs (at + 4)))))
 agreed bs es at n m place mark formals b t name number found there read marked counted same is e =
-    call-found bs es at n m name number Ok tt
-    (sym (ap verdict_of (use-right bs es at procedure n place (sym found ∙ there) (ap (λ (x : Meaning). kind_field x.kind) (means-PR bs place (sym read ∙ marked))))))
-    refl Ok tt (sym (ap verdict_of (agree-visible (scope_of bs es) at (kinds_at bs (place + 6) m) (fields_at bs (at + 6) m) (sym is ∙ e)))) refl b found place Ok tt there
+    call-found bs es at n m name number (Ok tt)
+    (sym (ap verdict_of (use-right bs es at procedure n place (sym found ∙ there) (ap (λ (x : Meaning). x.kind) (means-PR bs place (sym read ∙ marked))))))
+    refl (Ok tt) (sym (ap verdict_of (agree-visible (scope_of bs es) at (kinds_at bs (place + 6) m) (fields_at bs (at + 6) m) (sym is ∙ e)))) refl b found place (Ok tt) there
     (agrees-right bs at place mark read marked formals m counted _ t same is e)

@@ -26,7 +26,7 @@ abbrev entry : ℕ → ℕ → ℕ → Mark → Entry
 entry w n ps m = record { letters = w; count = n; places = ps; mark = m }
 
 -- `MARKS`, as the code has it
-abbrev pub entries : List Entry
+abbrev entries : List Entry
 entries =
     entry 0x4d46 2 2 FM ∷
     entry 0x5256 1 4 VR ∷

@@ -198,13 +198,15 @@ fn bit_of(place: Place) -> u8
 }
 
 // The mark with these letters, of those that may stand at a place. The table is copied once, before the loop: where the place is known
-// when the call is compiled, a comparison for each of its marks is left.
+// when the call is compiled, a comparison for each of its marks is left. An entry is a value, taken by its number: over an iterator the
+// table stayed in memory and the place was looked at in every call.
 pub fn find_mark(letters: u32, place: Place) -> Option<Matched>
     ensures { result ≡ fit_at place letters }
 {
     let marks = MARKS;
     let bit = bit_of(place);
-    for e in &marks {
+    for i in 0..13 {
+        let e = marks[i];
         if e.places / bit % 2 == 1 {
             if e.letters == letters {
                 let mark = e.mark;

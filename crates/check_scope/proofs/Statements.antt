@@ -10,7 +10,7 @@ use Rattle.language.specs.Text.{Action, CL, GO, IF, KN, AR, AD, RM, QY}
 use Rattle.language.specs.Encoding.{action_fields, BK-mark, VR-mark, LB-mark, PR-mark, CL-mark, IF-mark, AR-mark, AD-mark, RM-mark, QY-mark, operation_field}
 use Rattle.language.specs.Scope.{Scope, fine, wrong, judge_action, judge_block, judge_decl, judge_stmt}
 use Rattle.language.specs.Scope as definitions
-use Rattle.language.specs.Faults.{fault, Progress, Verdict}
+use Rattle.language.specs.Faults.{Progress, Verdict}
 use Rattle.laws.specs.Fields.{field_at, FieldsStand, fields-after, fields-are, fields-third}
 use Rattle.check_uses.specs.Meanings.{verdict_of, scope_from}
 use Rattle.check_statements.specs.Shapes.{shape_of, judged_as}
@@ -98,5 +98,5 @@ pub ahead-action : (bs es : List ℕ) (top at : ℕ) (r : Progress) → at < len
 ahead-action bs es top at r l n = subst (Ahead at (length bs)) (sym n.so) (go n.verdict)
   where
     go : (w : Verdict) → Ahead at (length bs) (progress_after w n.next)
-    go Ok tt = (omega (arith, n.past.on), omega (arith, n.past.near))
-    go (Err (fault c o)) = tt
+    go (Ok u) = (omega (arith, n.past.on), omega (arith, n.past.near))
+    go (Err e) = tt

@@ -8,18 +8,18 @@ use native.Mathlib.Omega.{arith}
 use lib.ListN.{length, drop, length-append}
 use Rattle.language.specs.Scope.{fine, wrong, ◌then◌}
 use Rattle.language.specs.Scope as definitions
-use Rattle.language.specs.declared.Refusal.{Refusal}
-use Rattle.language.specs.Faults.{fault, Progress}
+use Rattle.language.specs.declared.Fault.{Fault}
+use Rattle.language.specs.Faults.{Progress}
 use Rattle.check_uses.specs.Meanings.{scope_of}
 use Rattle.check_extents.specs.Items.{Item, item_fields, items_fields}
 use Rattle.check_scope.specs.Walking.{progress_of, judge_item, judge_items, ItemsHere, ItemHere, Ahead, Ready, Kept, ItemJudged, ItemsJudged}
 use Rattle.check_scope.proofs.Marked.{first-here, first-inside, others-here}
 
 -- a verdict, then another: where the first refuses, and where it does not
-stops : (r : Progress) (v w : definitions.Judgement) (c : Refusal) (o e e' : ℕ) → r ≡ progress_of v e → r ≡ Err (fault c o) → r ≡ progress_of (◌then◌ v w) e'
+stops : (r : Progress) (v w : definitions.Judgement) (x : Fault) (e e' : ℕ) → r ≡ progress_of v e → r ≡ Err x → r ≡ progress_of (◌then◌ v w) e'
 unfolding ◌then◌
-stops r fine w c o e e' p q = absurd (let z : ◌≡◌ {A = ℕ} 0 1 = cc in omega arith)
-stops r (wrong d n) w c o e e' p q = p
+stops r fine w x e e' p q = absurd (let z : ◌≡◌ {A = ℕ} 0 1 = cc in omega arith)
+stops r (wrong d n) w x e e' p q = p
 
 goes : (r : Progress) (v w : definitions.Judgement) (next e e' : ℕ) → r ≡ progress_of v e → r ≡ Ok next → (next ≡ e) × (progress_of w e' ≡ progress_of (◌then◌ v w) e')
 unfolding ◌then◌
@@ -67,14 +67,14 @@ module _ (bs es : List ℕ) (at count top : ℕ) (xs : List Item) (level s : ℕ
           go (y ∷ ys) n h out = first-inside bs here top level s y ys h out
 
       module _ (r : Progress) (judged : (x : Item) (k n : ℕ) → ItemHere bs here top x k n → r ≡ progress_of (judge_item x (scope_of bs (drop top es))) (here + 2 * length (item_fields x))) where
-        stop-at : (c : Refusal) (o : ℕ) → r ≡ Err (fault c o) → (l : List Item) → length l + i ≡ count → ItemsHere bs here (length l) top l level s → progress_of (judge_items l (scope_of bs (drop top es))) (here + 2 * length (items_fields l)) ≡ answer → r ≡ answer
+        stop-at : (x : Fault) → r ≡ Err x → (l : List Item) → length l + i ≡ count → ItemsHere bs here (length l) top l level s → progress_of (judge_items l (scope_of bs (drop top es))) (here + 2 * length (items_fields l)) ≡ answer → r ≡ answer
         unfolding judge_items
-        stop-at c o q [] n h v = absurd (omega arith)
-        stop-at c o q (y ∷ ys) n h v =
-            stops r (judge_item y (scope_of bs (drop top es))) (judge_items ys (scope_of bs (drop top es))) c o _ _ (judged y level s (first-here bs here top level s y ys h)) q ∙ v
+        stop-at x q [] n h v = absurd (omega arith)
+        stop-at x q (y ∷ ys) n h v =
+            stops r (judge_item y (scope_of bs (drop top es))) (judge_items ys (scope_of bs (drop top es))) x _ _ (judged y level s (first-here bs here top level s y ys h)) q ∙ v
 
-        remaining-stop : (c : Refusal) (o : ℕ) → r ≡ Err (fault c o) → Remaining bs es at here i count top xs level s → r ≡ answer
-        remaining-stop c o q m = stop-at c o q m.left m.number m.rest m.verdict
+        remaining-stop : (x : Fault) → r ≡ Err x → Remaining bs es at here i count top xs level s → r ≡ answer
+        remaining-stop x q m = stop-at x q m.left m.number m.rest m.verdict
 
         go_on : (next : ℕ) → r ≡ Ok next → (l : List Item) → length l + i ≡ count → ItemsHere bs here (length l) top l level s → progress_of (judge_items l (scope_of bs (drop top es))) (here + 2 * length (items_fields l)) ≡ answer → Remaining bs es at next (i + 1) count top xs level s
         unfolding judge_items items_fields
@@ -96,7 +96,6 @@ module _ (bs es : List ℕ) (at count top : ℕ) (xs : List Item) (level s : ℕ
 
 -- the records walked so far, as the code has it
 pub record Walking (bs es₀ es ends : List ℕ) (at here i count top : ℕ) : Type 0 where
-  pub within : i ≤ count
   pub from : at ≤ here
   pub near : here ≤ length bs + 131076
   pub long : length es ≡ length es₀
@@ -106,7 +105,6 @@ pub record Walking (bs es₀ es ends : List ℕ) (at here i count top : ℕ) : T
 pub walking_start : (bs es ends : List ℕ) (at count top : ℕ) → Ready bs es ends top → at ≤ length bs + 131076 → Walking bs es es ends at at 0 count top
 walking_start bs es ends at count top r l =
     record {
-      within = omega arith;
       from = omega arith;
       near = l;
       long = refl;
@@ -125,15 +123,16 @@ module _ {bs es₀ es ends : List ℕ} {at here i count top : ℕ} (w : Walking 
     judged-at : (x : Item) (k n : ℕ) → ItemHere bs here top x k n → r ≡ progress_of (judge_item x (scope_of bs (drop top es₀))) (here + 2 * length (item_fields x))
     judged-at x k n g = judged x k n g ∙ ap (λ (l : List ℕ). progress_of (judge_item x (scope_of bs l)) (here + 2 * length (item_fields x))) w.kept.same
 
-    pub walking-stop : (c : Refusal) (o : ℕ) → r ≡ Err (fault c o) → ItemsJudged bs es₀ at count top r
-    walking-stop c o q xs level s h = remaining-stop bs es₀ at count top xs level s here i more r judged-at c o q (w.rest xs level s h)
+    -- the walk ends with the record's refusal
+    pub walking-stop : (t : Progress) (x : Fault) → r ≡ Err x → t ≡ Err x → ItemsJudged bs es₀ at count top t
+    walking-stop t x q p xs level s h =
+        p ∙ sym q ∙ remaining-stop bs es₀ at count top xs level s here i more r judged-at x q (w.rest xs level s h)
 
     pub walking-step :
         {es₁ ends₁ : List ℕ} (next : ℕ) → r ≡ Ok next → Ahead here (length bs) r → length es₁ ≡ length es → Kept bs es es₁ ends₁ top → Walking bs es₀ es₁ ends₁ at next (i + 1) count top
     walking-step next q a n k =
         let on : (here ≤ next) × (next ≤ length bs + 131076) = subst (Ahead here (length bs)) q a in
         record {
-          within = omega arith;
           from = omega (arith, on.0);
           near = on.1;
           long = n ∙ w.long;

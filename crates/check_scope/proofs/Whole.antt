@@ -1,5 +1,6 @@
 -- A script that the definitions read whole: its tree stands in its bytes from the start.
 -- Assumes nothing.
+use Rattle.std.specs.Prelude.{Ok, Err}
 use mathlib.Core.Path.{◌≡◌, refl, sym, ◌∙◌, ap, subst}
 use mathlib.Core.List.{List, [], ◌∷◌}
 use Prim.Native.Nat.{ℕ, ◌+◌, ◌*◌, ◌≤◌}
@@ -18,6 +19,7 @@ use Rattle.grammar.proofs.Reading.{GotBlock, read-program}
 use Rattle.laws.specs.Fields.{FieldsStand, fields-first, fields-stand}
 use Rattle.check_uses.specs.Meanings.{scope_of, verdict_of}
 use Rattle.check_scope.specs.Walking.{progress_of, settled_of, Judged, BlockHere}
+use Rattle.language.specs.declared.Fault.{Fault}
 use Rattle.language.specs.Faults.{Verdict}
 
 settled-verdict : (v : definitions.Judgement) (end : ℕ) → settled_of (progress_of v end) ≡ verdict_of v
@@ -47,7 +49,14 @@ module _ (bs : List ℕ) (bytes : Bytes bs) (es : List ℕ) (long : length es �
   by-reading (read t end (w ∷ ws)) y = tt
   by-reading (refuse c o) y = tt
 
-  pub whole-judged : (r : Verdict) → r ≡ settled_of p → Judged (program 0 (fields_of bs)) r
+  whole-judged : (r : Verdict) → r ≡ settled_of p → Judged (program 0 (fields_of bs)) r
   whole-judged r e =
       subst (Judged (program 0 (fields_of bs))) (sym e)
       (by-reading (program 0 (fields_of bs)) (read-program (fields_of bs) (fields-are-names bs bytes)))
+
+  -- as the code has it: the walk refuses, or comes to its end
+  pub whole-refused : (r : Verdict) (x : Fault) → p ≡ Err x → r ≡ Err x → Judged (program 0 (fields_of bs)) r
+  whole-refused r x q e = whole-judged r (e ∙ sym (ap settled_of q))
+
+  pub whole-fit : (end : ℕ) → p ≡ Ok end → Judged (program 0 (fields_of bs)) (Ok tt)
+  whole-fit end q = whole-judged (Ok tt) (sym (ap settled_of q))

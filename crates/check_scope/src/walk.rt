@@ -7,6 +7,7 @@ use check_fields::word;
 use check_marks::{BK, BK_BYTES, FM_BYTES, LB, LB_BYTES, PR, PR_BYTES, VR, VR_BYTES};
 use check_statements::action;
 use check_symbols::{insert, remove};
+use check_uses::Scope;
 use language::{Fault, Refusal};
 
 // So many formals at an offset and their block after them. Its names are put below `top` before any of its text is judged.
@@ -64,8 +65,7 @@ fn items(
     ensures kept { Kept script.now entries.old entries.new ends.new top }
 {
     let mut here = at;
-    let mut i = 0;
-    while i < count {
+    for _ in 0..count {
         if script.len() <= here {
             return Err(Fault {
                 cause: Refusal::PastTheEnd,
@@ -73,7 +73,6 @@ fn items(
             });
         }
         here = item(script, entries, ends, here, top)?;
-        i += 1;
     }
     Ok(here)
 }
@@ -112,5 +111,10 @@ fn item(
     if mark == LB {
         return Ok(at + LB_BYTES);
     }
-    action(script, entries, top, at, mark)
+    let scope = Scope {
+        script,
+        entries,
+        top,
+    };
+    action(scope, at, mark)
 }

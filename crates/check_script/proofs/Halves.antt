@@ -15,7 +15,7 @@ use Rattle.language.specs.Structure.{program, Reading}
 use Rattle.language.specs.Scope.{judge_block, fine, wrong}
 use Rattle.language.specs.Scope as definitions
 use Rattle.language.specs.Check.{length_fits, judged, check}
-use Rattle.language.specs.declared.Refusal.{Refusal}
+use Rattle.language.specs.declared.Fault.{Fault}
 use Rattle.language.specs.declared.Refusal.TheVariants.{ScriptLength}
 use Rattle.language.specs.Faults.{fault, Verdict}
 use Rattle.check_structure.specs.Structure.{structure_of}
@@ -30,9 +30,9 @@ as-judged t fine = refl
 as-judged t (wrong c o) = refl
 
 module _ (bs : List ℕ) (v : Verdict) (e : v ≡ structure_of bs) where
-  pub refused-whole : (c : Refusal) (o : ℕ) → v ≡ Err (fault c o) → v ≡ verdict_of (check bs)
+  pub refused-whole : (r : Verdict) (x : Fault) → v ≡ Err x → r ≡ Err x → r ≡ verdict_of (check bs)
   unfolding verdict_of
-  refused-whole c o q = q ∙ sym (ap verdict_of (refuses bs c o (sym e ∙ q)))
+  refused-whole r x q p = p ∙ sym (ap verdict_of (refuses bs x.cause x.offset (sym e ∙ q)))
 
   pub fit-whole : (r : Verdict) → v ≡ Ok tt → Judged (program 0 (fields_of bs)) r → r ≡ verdict_of (check bs)
   fit-whole r q j =

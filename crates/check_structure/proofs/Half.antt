@@ -1,7 +1,7 @@
 -- What the structure says of the whole check: a refusal is the check's, and a fit script is judged by its names alone.
 -- Assumes nothing.
 use Rattle.std.specs.Prelude.{Ok, Err}
-use mathlib.Core.Path.{◌≡◌, refl, sym, ◌∙◌}
+use mathlib.Core.Path.{◌≡◌, refl, sym, ap, ◌∙◌}
 use mathlib.Core.Bool.{Bool, true, false}
 use mathlib.Core.List.{List, [], ◌∷◌}
 use Prim.Native.Nat.{ℕ}
@@ -12,15 +12,19 @@ use Rattle.language.specs.Structure.{Reading as Outcome, read, refuse, program}
 use Rattle.language.specs.Scope.{judge_block}
 use Rattle.language.specs.Check.{refused, length_fits, judged, ended, check}
 use Rattle.language.specs.declared.Refusal.{Refusal}
-use Rattle.language.specs.declared.Refusal.TheVariants.{ScriptLength}
-use Rattle.language.specs.Faults.{fault, Verdict}
+use Rattle.language.specs.declared.Refusal.TheVariants.{ScriptLength, BytesAfter}
+use Rattle.language.specs.declared.Fault.{Fault}
+use Rattle.language.specs.Faults.{fault}
 use Rattle.check_structure.specs.Structure.{ended_of, structure_of}
+
+same : (x y : Fault) → x ≡ y → refused x.cause x.offset ≡ refused y.cause y.offset
+same x y e = ap (λ (z : Fault). refused z.cause z.offset) e
 
 refused-there : (x : Outcome Block) (c : Refusal) (o : ℕ) → ended_of x ≡ Err (fault c o) → ended x ≡ refused c o
 unfolding ended_of ended
 refused-there (read t at []) c o e = let z : ◌≡◌ {A = ℕ} 0 1 = cc in absurd (omega arith)
-refused-there (read t at (w ∷ ws)) c o e = cc
-refused-there (refuse d p) c o e = cc
+refused-there (read t at (w ∷ ws)) c o e = same (fault BytesAfter at) (fault c o) cc
+refused-there (refuse d p) c o e = same (fault d p) (fault c o) cc
 
 -- a fit script: its tree, and what is left of the check
 pub record Read (bs : List ℕ) : Type 0 where
@@ -56,7 +60,7 @@ module _ (bs : List ℕ) where
   refused-by : (c : Refusal) (o : ℕ) (b : Bool) → length_fits bs ≡ b → structure_of bs ≡ Err (fault c o) → check bs ≡ refused c o
   refused-by c o true f e =
       check-fits f ∙ refused-there (program 0 (fields_of bs)) c o (sym (structure-fits f) ∙ e)
-  refused-by c o false f e = let i = structure-misfits f in check-misfits f ∙ cc
+  refused-by c o false f e = let i = structure-misfits f in check-misfits f ∙ same (fault ScriptLength 0) (fault c o) cc
 
   pub refuses : (c : Refusal) (o : ℕ) → structure_of bs ≡ Err (fault c o) → check bs ≡ refused c o
   refuses c o e = refused-by c o (length_fits bs) refl e

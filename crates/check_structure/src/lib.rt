@@ -13,18 +13,14 @@ const LONGEST: usize = 8192;
 fn ended(p: Result<usize, Fault>, n: usize) -> Result<(), Fault>
     ensures { result ≡ closing p n }
 {
-    match p {
-        Ok(end) => {
-            if end < n {
-                return Err(Fault {
-                    cause: Refusal::BytesAfter,
-                    offset: end,
-                });
-            }
-            Ok(())
-        }
-        Err(fault) => Err(fault),
+    let end = p?;
+    if end < n {
+        return Err(Fault {
+            cause: Refusal::BytesAfter,
+            offset: end,
+        });
     }
+    Ok(())
 }
 
 pub fn structure(script: &[u8]) -> Result<(), Fault>

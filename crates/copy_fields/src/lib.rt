@@ -51,7 +51,8 @@ fn note(script: &[u8], code: &[u32; 4096], names: &mut [u32; 4096], at: usize, m
     take(code, names, at / 2 + 3, trailing(script, at, mark));
 }
 
-// One pass over the records, which stand one after the other. `names` is all zeros before it.
+// One pass over the records, which stand one after the other: where the next one begins is read from this one, so no range or slice has
+// them. `names` is all zeros before it.
 pub fn name_fields(script: &[u8], code: &[u32; 4096], names: &mut [u32; 4096])
     requires { names.old ≡ replicate 4096 0 }
     ensures noted { naming.NamesStand script.now code.now names.new }

@@ -1,5 +1,5 @@
 -- The search for the activation that declares a new name. `Narrowed`: it is not below `low`, and it is below `high` unless it is `low` itself;
--- where nothing is left between them, it is `low` (`owner-is`). A search by halves begins with `narrowed-first` and goes on by `narrowed-up` and
+-- where nothing is left between them, it is `low` (`owner-is`). The search begins with `narrowed-first` and goes on by `narrowed-up` and
 -- `narrowed-down`. `cell-is`: the cell from what is noted of the activation found.
 use Rattle.std.specs.Prelude.{ℕ, zero, suc, ◌+◌, ◌-◌, ◌≤◌, ◌<◌, Bool, true, false, List, ◌≡◌, refl, leb, get_or}
 use Rattle.std.proofs.Common.{arith, ap, ◌∙◌, le-leb, leb-true, leb-false}

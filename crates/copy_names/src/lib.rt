@@ -15,12 +15,23 @@ pub fn first_of(firsts: &[u32; 256], activation: usize) -> usize
     from_u32(firsts[activation])
 }
 
-// The activation below the innermost one that declares a name: so many above the program's have a first new name not above it.
+// The activation below the innermost one that declares a name. It is found by hand: of 2 to 9 activations the library's `partition_point`,
+// which asks once more at the end, takes a fifth more instructions.
 fn outer_owner(firsts: &[u32; 256], live: usize, name: usize) -> usize
-    requires { (1 ≤ live) × (live ≤ 255) × Sorted firsts.now live × (name < get_or firsts.now live 0) }
+    requires { (live ≤ 255) × Sorted firsts.now live × (name < get_or firsts.now live 0) }
     ensures { (result ≡ owner_in firsts.now live name) × (result ≤ live) }
 {
-    firsts[1..live].partition_point(|first| from_u32(*first) <= name)
+    let mut low = 0;
+    let mut high = live;
+    while 1 < high - low {
+        let middle = (low + high) / 2;
+        if first_of(firsts, middle) <= name {
+            low = middle;
+        } else {
+            high = middle;
+        }
+    }
+    low
 }
 
 // The cell of a name that an activation declares: its names have one cell after the other.

@@ -5,11 +5,9 @@ use mathlib.Core.Bool.{Bool, false}
 use mathlib.Core.List.{List, [], ◌∷◌, ◌++◌}
 use Prim.Native.Nat.{ℕ, ◌+◌, ◌*◌, ◌<◌, ◌≤◌}
 use native.Mathlib.Omega.{arith}
-use borrow.Author.Count.{below_more}
-use lib.ListN.{length, get_or, take, drop, set, length-append, length-set}
+use lib.ListN.{length, take, drop, set, length-append, length-set}
 use lib.Seq.{take-set-le}
-use Rattle.language.specs.Encoding.{LB-mark}
-use Rattle.laws.specs.Fields.{field_at, FieldsStand, fields-first, fields-after}
+use Rattle.laws.specs.Fields.{FieldsStand, fields-first, fields-after}
 use Rattle.check_extents.specs.Items.{Item, item_fields, items_fields}
 use Rattle.check_extents.specs.Passing.{Skipped, Ends}
 use Rattle.resolve_names.specs.Declared.{starts_of, Started, Noted, Unlabelled, IfLabelled}
@@ -110,14 +108,3 @@ labelled-noted bs st st' ends at count d end n = record { started = λ k l m. (e
 pub unlabelled-noted :
     (bs st ends : List ℕ) (at count d : ℕ) (t : Bool) → (t ≡ false → Unlabelled bs st d) → t ≡ false → Ends bs ends → IfLabelled bs st st ends at count d
 unlabelled-noted bs st ends at count d t u e n = record { started = λ k l m. absurd (u e k l m); below = refl; noted = n }
-
--- labels looked for
-pub unlabelled-none : (bs st : List ℕ) → Unlabelled bs st 0
-unlabelled-none bs st k l m = omega arith
-
-pub unlabelled-more :
-    (bs st : List ℕ) (i at w : ℕ) → Unlabelled bs st i → at ≡ get_or st i 0 → w ≡ field_at bs at → (w ≡ LB-mark → ⊥) → Unlabelled bs st (i + 1)
-unlabelled-more bs st i at w u e f n = below_more _ i u (λ m. n (f ∙ ap (field_at bs) e ∙ m))
-
-pub unlabelled-all : (bs st : List ℕ) (i d : ℕ) → d ≤ i → Unlabelled bs st i → Unlabelled bs st d
-unlabelled-all bs st i d l u k h = u k (omega arith)

@@ -16,10 +16,7 @@ use numbers::from_u32;
 fn start_of(starts: &[u32], i: usize) -> usize
     ensures { (result ≡ get_or starts.now i 0) × (result < 2 ^ 32) }
 {
-    if i < starts.len() {
-        return from_u32(starts[i]);
-    }
-    0
+    starts.get(i).map_or(0, |start| from_u32(*start))
 }
 
 // Where so many records from an offset on begin is put from `base` on. The answer is where they end.
@@ -35,14 +32,12 @@ fn places(
     ensures { Noted script.now starts.old starts.new ends.new at count base result }
 {
     let mut here = at;
-    let mut i = 0;
-    while i < count {
+    for i in 0..count {
         if starts.len() <= base + i {
             return here;
         }
         starts[base + i] = here as u32;
         here = skip(script, ends, here);
-        i += 1;
     }
     here
 }
@@ -51,14 +46,7 @@ fn places(
 fn labelled(script: &[u8], starts: &[u32], d: usize) -> bool
     ensures { result ≡ false → Unlabelled script.now starts.now d }
 {
-    let mut i = 0;
-    while i < d {
-        if word(script, start_of(starts, i)) == LB {
-            return true;
-        }
-        i += 1;
-    }
-    false
+    (0..d).any(|i| word(script, start_of(starts, i)) == LB)
 }
 
 // Where the statements of a block stand is noted after its d declarations, if one of these is a label.
@@ -90,16 +78,17 @@ fn declared_word(
     requires { (at < 2 ^ 32) × (1 ≤ d) × (d < 65536) × (level ≤ 1000000) × (i < 2 ^ 17) }
     ensures { Worded script.now starts.now at d level i result × (result < 2 ^ 48) }
 {
-    let mark = word(script, at);
-    if mark == PR {
-        let body = (at + PR_BYTES + FM_BYTES * word(script, at + 4)) / 2;
-        return name_word(i, 0, layout::PROCEDURE, level, body);
+    match word(script, at) {
+        PR => {
+            let body = (at + PR_BYTES + FM_BYTES * word(script, at + 4)) / 2;
+            name_word(i, 0, layout::PROCEDURE, level, body)
+        }
+        LB => {
+            let statement = start_of(starts, d - 1 + word(script, at + 4)) / 2;
+            name_word(i, 0, layout::LABEL, level, statement)
+        }
+        _ => name_word(i, 0, layout::VARIABLE, level, 0),
     }
-    if mark == LB {
-        let statement = start_of(starts, d - 1 + word(script, at + 4)) / 2;
-        return name_word(i, 0, layout::LABEL, level, statement);
-    }
-    name_word(i, 0, layout::VARIABLE, level, 0)
 }
 
 fn declared_entry(
@@ -159,10 +148,8 @@ fn push_own(
     requires { (at ≤ 1000000) × (count < 65536) × (d < 65536) × (level ≤ 1000000) × (base + (count + d) ≤ length entries.old) }
     ensures { OwnPut script.now starts.now entries.old entries.new at count d base level }
 {
-    let mut i = 0;
-    while i < count + d {
+    for i in 0..count + d {
         entries[base + i] = own_entry(script, starts, at, count, d, level, i);
-        i += 1;
     }
 }
 

@@ -11,6 +11,7 @@ use Rattle.grammar.specs.Rules.{FormedBlock}
 use Rattle.coordinates.specs.Enclosure.{enclosed, Enclosure}
 use Rattle.resolved.specs.Resolved.{end_place, head_word, bounds_word, header, name_word, resolved_formals, resolved_block, resolved_decls}
 use Rattle.resolved.proofs.Lengths.{formals-length, formals-fields}
+use Rattle.laws.specs.Each.{Each}
 use Rattle.laws.specs.Fields.{field_at}
 use Rattle.check_symbols.specs.Chains.{Chained, Rechained}
 use Rattle.check_symbols.proofs.Chains.{kept_from, chained-still}
@@ -49,13 +50,13 @@ module _ (bs : List ℕ) (name at count d base level : ℕ) (d-read : d ≡ fiel
   entered :
       (es es₁ es₂ ends c c₁ c₂ : List ℕ) (first looked : ℕ) → Declares bs es es₁ ends at count d base level first → drop base es₂ ≡ drop base es₁ →
       FormalsWritten bs at count c c₁ → looked ≡ word_in name (drop base es₂) →
-      (Short head → Short 0 → Short looked → Grown c₁ c₂ (at + 6 * count) (head ∷ 0 ∷ looked ∷ [])) → Entered bs es es₂ name at count top base level c c₂
+      (Each Short (head ∷ 0 ∷ looked ∷ []) → Grown c₁ c₂ (at + 6 * count) (head ∷ 0 ∷ looked ∷ [])) → Entered bs es es₂ name at count top base level c c₂
   entered es es₁ es₂ ends c c₁ c₂ first looked declares kept formals found put b fs encl is =
       let shown : Shown (enclosed fs b ∷ encl) (drop base es₂) =
       subst (Shown (enclosed fs b ∷ encl)) (sym kept) (declares.shows b fs encl is.here is.depth is.within is.shown) in
       let h = head-is b fs is.here in
       let w : looked ≡ name_word (enclosed fs b ∷ encl) name = found ∙ word-is (enclosed fs b ∷ encl) (drop base es₂) shown name in
-      let g = put h.1 (omega arith) (subst Short (sym w) (word-short (enclosed fs b ∷ encl) (drop base es₂) shown name)) in (
+      let g = put (h.1, (omega arith, (subst Short (sym w) (word-short (enclosed fs b ∷ encl) (drop base es₂) shown name), tt))) in (
         shown,
         grown-then (formals-place fs at count is.here.number) (formals fs is.here.number is.here.formals)
             (subst (λ (v : ℕ). Grown c₁ c₂ (at + 6 * count) (head_word (enclosed fs b) level ∷ 0 ∷ v ∷ [])) w
@@ -66,12 +67,12 @@ module _ (bs : List ℕ) (name at count d base level : ℕ) (d-read : d ≡ fiel
   pub enters :
       (es es₁ es₂ ends c c₁ c₂ : List ℕ) (first looked w : ℕ) → 768 ≤ base → Declares bs es es₁ ends at count d base level first → Rechained es₁ es₂ base →
       FormalsWritten bs at count c c₁ → looked ≡ word_in name (drop base es₂) → w ≡ head →
-      (Short w → Short 0 → Short looked → Grown c₁ c₂ (at + 6 * count) (w ∷ 0 ∷ looked ∷ [])) → Enters bs es es₂ ends c c₂ name at count d base level first
+      (Each Short (w ∷ 0 ∷ looked ∷ []) → Grown c₁ c₂ (at + 6 * count) (w ∷ 0 ∷ looked ∷ [])) → Enters bs es es₂ ends c c₂ name at count d base level first
   enters es es₁ es₂ ends c c₁ c₂ first looked w low declares inserted formals found h put =
       record {
         entered =
             entered es es₁ es₂ ends c c₁ c₂ first looked declares (kept_from es₂ es₁ 768 base low inserted.same) formals found
-            (subst (λ (x : ℕ). Short x → Short 0 → Short looked → Grown c₁ c₂ (at + 6 * count) (x ∷ 0 ∷ looked ∷ [])) h put);
+            (subst (λ (x : ℕ). Each Short (x ∷ 0 ∷ looked ∷ []) → Grown c₁ c₂ (at + 6 * count) (x ∷ 0 ∷ looked ∷ [])) h put);
         leads = λ b fs encl is. declares.leads b fs is.here is.within;
         same = kept_from es₂ es₁ 768 top (omega arith) inserted.same ∙ declares.above;
         chained = inserted.chained;

@@ -1,4 +1,5 @@
-// The walk over a script's records in file order. It is safe on any bytes.
+// The walk over a script's records in file order. It is safe on any bytes. What is lent stays apart in its functions: of a struct handed on
+// whole, each would have to say which parts it leaves alone, as `kinds` and `leaf` would, which write the code alone.
 ghost use Rattle.std.specs.Prelude.{◌≡◌, ℕ, ◌+◌, ◌<◌, ◌≤◌, length};
 ghost use Rattle.language.specs.Encoding.{BK-mark, PR-mark};
 ghost use Rattle.laws.specs.Fields.{field_at};
@@ -11,34 +12,33 @@ use check_extents::past;
 use check_fields::word;
 use check_marks::{BK, BK_BYTES, FM_BYTES, LB, LB_BYTES, PR, PR_BYTES, VR, VR_BYTES};
 use check_symbols::{insert, remove};
+use check_uses::Scope;
 use layout::{bounds_word, head_word};
 use resolve_names::declare;
 use resolve_statements::emit;
-use resolve_words::{emit_name, named, put, put_three};
+use resolve_words::{emit_name, named, put, put_all};
 
 // A record that holds no other, with its mark.
-fn leaf(
-    script: &[u8],
-    entries: &[usize],
-    code: &mut [u32],
-    at: usize,
-    top: usize,
-    mark: usize,
-) -> usize
-    requires { (length script.now ≤ 8192) × (at < length script.now) × Chained entries.now top × (mark < 65536) × (mark ≡ field_at script.now at) × (mark ≡ PR-mark → ⊥) × (mark ≡ BK-mark → ⊥) }
-    ensures written { (name level : ℕ) → ItemWritten script.now entries.now name at top level code.old code.new result }
-    ensures onward { Onward at (length script.now) result }
+fn leaf(scope: Scope<'_>, code: &mut [u32], at: usize, mark: usize) -> usize
+    requires { (length scope.script.now ≤ 8192) × (at < length scope.script.now) × (mark < 65536)
+        × (mark ≡ field_at scope.script.now at) × (mark ≡ PR-mark → ⊥) × (mark ≡ BK-mark → ⊥) }
+    ensures written { (name level : ℕ) → ItemWritten scope.entry.script.now scope.entry.entries.now name at scope.entry.top level code.old code.new result }
+    ensures onward { Onward at (length scope.entry.script.now) result }
 {
-    if mark == VR {
-        emit_name(script, entries, top, code, at);
-        return at + VR_BYTES;
+    match mark {
+        VR => {
+            emit_name(scope, code, at);
+            at + VR_BYTES
+        }
+        LB => {
+            emit_name(scope, code, at);
+            at + LB_BYTES
+        }
+        _ => {
+            emit(scope, code, at, mark);
+            past(scope.script, at, mark)
+        }
     }
-    if mark == LB {
-        emit_name(script, entries, top, code, at);
-        return at + LB_BYTES;
-    }
-    emit(script, entries, top, code, at, mark);
-    past(script, at, mark)
 }
 
 // The kinds of so many formals from an offset on.
@@ -46,11 +46,9 @@ fn kinds(script: &[u8], code: &mut [u32], at: usize, count: usize)
     requires { (at ≤ 1000000) × (count < 65536) }
     ensures { FormalsWritten script.now at count code.old code.new }
 {
-    let mut i = 0;
-    while i < count {
+    for i in 0..count {
         let here = at + FM_BYTES * i + 4;
         put(code, here, word(script, here));
-        i += 1;
     }
 }
 
@@ -75,9 +73,14 @@ fn enter(
     let first = declare(script, entries, ends, starts, at, count, d, s, base, level);
     insert(entries, base, base + (count + d));
     kinds(script, code, at, count);
-    let looked = named(entries, base, name);
+    let scope = Scope {
+        script,
+        entries,
+        top: base,
+    };
+    let looked = named(scope, name);
     let head = head_word(level, count, count + d);
-    put_three(code, at + FM_BYTES * count, head, 0, looked);
+    put_all(code, at + FM_BYTES * count, &[head, 0, looked]);
     first
 }
 
@@ -150,13 +153,11 @@ fn items(
     ensures kept { Kept script.now entries.old entries.new ends.new top }
 {
     let mut here = at;
-    let mut i = 0;
-    while i < count {
+    for _ in 0..count {
         if script.len() <= here {
             return here;
         }
         here = item(script, entries, ends, starts, code, name, here, top, level);
-        i += 1;
     }
     here
 }
@@ -179,25 +180,29 @@ fn item(
     ensures onward { Onward at (length script.now) result }
     ensures kept { Kept script.now entries.old entries.new ends.new top }
 {
-    let mark = word(script, at);
-    if mark == PR {
-        emit_name(script, entries, top, code, at);
-        let count = word(script, at + 4);
-        return block(
-            script,
-            entries,
-            ends,
-            starts,
-            code,
-            name,
-            at + PR_BYTES,
-            count,
-            top,
-            level + 1,
-        );
-    }
-    if mark == BK {
-        return block(
+    match word(script, at) {
+        PR => {
+            let scope = Scope {
+                script,
+                entries,
+                top,
+            };
+            emit_name(scope, code, at);
+            let count = word(script, at + 4);
+            block(
+                script,
+                entries,
+                ends,
+                starts,
+                code,
+                name,
+                at + PR_BYTES,
+                count,
+                top,
+                level + 1,
+            )
+        }
+        BK => block(
             script,
             entries,
             ends,
@@ -208,7 +213,14 @@ fn item(
             0,
             top,
             level + 1,
-        );
+        ),
+        mark => {
+            let scope = Scope {
+                script,
+                entries,
+                top,
+            };
+            leaf(scope, code, at, mark)
+        }
     }
-    leaf(script, entries, code, at, top, mark)
 }

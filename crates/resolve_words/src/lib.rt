@@ -22,7 +22,7 @@ pub fn put(code: &mut [u32], at: usize, w: usize)
 
 // So many words, each after the one before it.
 pub fn put_all(code: &mut [u32], at: usize, words: &[usize])
-    requires { at < 2 ^ 34 }
+    requires { at < 2 ^ 35 }
     ensures { Each Short words.now → Grown code.old code.new at words.now }
 {
     for (i, w) in words.iter().enumerate() {

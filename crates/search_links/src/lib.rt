@@ -24,7 +24,7 @@ fn onward(froms: &[u16; 256], k: usize) -> usize
     usize::from(froms[k])
 }
 
-// The first activation of a lower level, sought from an activation on.
+// The first activation of a lower level, sought from an activation on. Each record says where the search goes on, so no range has them.
 fn shallower(
     code: &[u32; 4096],
     blocks: &[u16; 256],

@@ -7,7 +7,7 @@ ghost use Rattle.search_names.specs.Seeking.{sought, first_at, Falls};
 use layout::SHARE;
 use numbers::from_u32;
 
-// The activation that introduces a number, sought from an activation on.
+// The activation that introduces a number, sought from an activation on. Each record says where the search goes on, so no range has them.
 fn seek(blocks: &[u16; 256], froms: &[u16; 256], from: usize, number: usize) -> usize
     requires { Falls froms.now from }
     ensures { (result ≡ sought blocks.now froms.now from number) × (result ≤ from) }

@@ -12,7 +12,7 @@ use check_extents::pass;
 use check_fields::word;
 use check_marks::BK;
 use layout::{level_of, position_of};
-use numbers::{from_u16, from_u32};
+use numbers::from_u32;
 use resolve_fields::{leading, trailing};
 
 // The number of the name whose word stands at a place.
@@ -21,7 +21,7 @@ fn number_at(code: &[u32; 4096], around: &[u16; 256], place: usize) -> u32
     ensures { result ≡ number_at code.now around.now place }
 {
     let word = from_u32(code[place]);
-    (32 * from_u16(around[level_of(word)]) + position_of(word)) as u32
+    (32 * usize::from(around[level_of(word)]) + position_of(word)) as u32
 }
 
 // The numbers of so many names, whose words stand from a place on. Past the end nothing is written.
@@ -36,13 +36,10 @@ fn number(
     ensures taken { numbers.new ≡ taken (number_at code.now around.now) numbers.old from count }
     ensures long { length numbers.new ≡ 4096 }
 {
-    let mut i = 0;
-    while i < count {
-        let place = from + i;
+    for place in from..from + count {
         if place < 4096 {
             numbers[place] = number_at(code, around, place);
         }
-        i += 1;
     }
 }
 
@@ -71,7 +68,8 @@ fn note(
     number(code, around, numbers, place + 3, trailing(script, at, mark));
 }
 
-// One pass over the records, which stand one after the other. `numbers` is all zeros before it.
+// One pass over the records, which stand one after the other: where the next one begins is read from this one, so no range or slice has
+// them. `numbers` is all zeros before it.
 pub fn number_names(script: &[u8], code: &[u32; 4096], numbers: &mut [u32; 4096])
     requires { numbers.old ≡ replicate 4096 0 }
     ensures numbered { NumbersStand script.now code.now numbers.new }

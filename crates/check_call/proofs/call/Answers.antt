@@ -1,10 +1,10 @@
--- `check_call::call` meets its contract: both words of the answer are those of the check's verdict. Assumes nothing.
-use borrow.Author.Rules.{rules}
+-- Both words of the answer are those of the check's verdict.
+use Rattle.std.proofs.Common.{rules}
 use Rattle.check_call.proofs.Words.{fit_words, refused-words}
 use Rattle.check_call.proofs.call.Goals as goal
 
-pub returns-in-Fit : goal.returns-in-Fit
-returns-in-Fit c = search (rules, fit_words)
+pub returns-in-Ok : goal.returns-in-Ok
+returns-in-Ok c = search (rules, fit_words)
 
-pub returns-in-Refused : goal.returns-in-Refused
-returns-in-Refused c = search (rules, refused-words)
+pub returns-in-Err : goal.returns-in-Err
+returns-in-Err c = search (rules, refused-words)

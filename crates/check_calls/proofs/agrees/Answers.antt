@@ -1,6 +1,6 @@
--- `check_calls::agrees` meets its contract: a case for each way out. Assumes nothing.
+-- A case for each way out.
+use Rattle.std.proofs.Common.{rules}
 use Rattle.check_calls.proofs.Judging.{agrees-free, agrees-count, agrees-right, agrees-wrong}
-use borrow.Author.Rules.{rules}
 use Rattle.check_calls.proofs.agrees.Goals as goal
 
 pub returns-then-word-ne-PR : goal.returns-then-word-ne-PR

@@ -1,13 +1,15 @@
--- `resolve_names::declared_word` meets its contract: a case for each mark. Assumes nothing.
+-- A case for each mark.
+use Rattle.std.proofs.Common.{rules}
 use Rattle.resolve_names.proofs.Declarations.{worded-PR, worded-LB, worded-VR}
-use borrow.Author.Rules.{rules}
 use Rattle.resolve_names.proofs.declared_word.Goals as goal
 
-pub returns-then-mark-eq-PR : goal.returns-then-mark-eq-PR
-returns-then-mark-eq-PR c = search (rules, worded-PR)
+-- PR
+pub returns-in-21072 : goal.returns-in-21072
+returns-in-21072 c = search (rules, worded-PR)
 
-pub returns-then-mark-eq-LB : goal.returns-then-mark-eq-LB
-returns-then-mark-eq-LB c = search (rules, worded-LB)
+-- LB
+pub returns-in-16972 : goal.returns-in-16972
+returns-in-16972 c = search (rules, worded-LB)
 
-pub returns : goal.returns
-returns c = search (rules, worded-VR)
+pub returns-in_default : goal.returns-in_default
+returns-in_default c = search (rules, worded-VR)

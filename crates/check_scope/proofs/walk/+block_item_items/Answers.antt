@@ -73,11 +73,14 @@ item-returns-clause-judged t c = search (rules, action-judged)
 pub items-returns-then-script-here-clause-judged : goal.items-returns-then-script-here-clause-judged
 items-returns-then-script-here-clause-judged t c = search (rules, walking-out)
 
-pub items-returns-in_default-clause-judged : goal.items-returns-in_default-clause-judged
-items-returns-in_default-clause-judged t c = search (rules, walking-stop)
+pub items-returns-in_err-here-clause-judged : goal.items-returns-in_err-here-clause-judged
+items-returns-in_err-here-clause-judged t c =
+    walking-stop c.loop.invariant c.item.result (omega arith) c.item.ensures.judged _ _ c.in_err-here.was (search rules)
 
-pub items-loop-i-preserved : goal.items-loop-i-preserved
-items-loop-i-preserved t c = search (rules, walking-step)
+pub items-loop-preserved : goal.items-loop-preserved
+items-loop-preserved t c =
+    walking-step c.loop.invariant c.item.result (omega arith) c.item.ensures.judged _ c.in_ok-here.was c.item.ensures.ahead (search rules)
+    c.item.ensures.kept
 
 pub items-returns-clause-judged : goal.items-returns-clause-judged
 items-returns-clause-judged t c = search (rules, walking-end)

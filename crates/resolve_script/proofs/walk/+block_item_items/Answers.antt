@@ -38,20 +38,20 @@ block-returns-clause-kept t c =
     (e.written, (e.onward, e.kept)) c.bounds_word.ensures c.put.ensures c.remove.ensures in
     w.1.1
 
-pub item-returns-then-mark-eq-PR-clause-written : goal.item-returns-then-mark-eq-PR-clause-written
-item-returns-then-mark-eq-PR-clause-written t c = search (rules, procedure-written)
+pub item-returns-in-21072-clause-written : goal.item-returns-in-21072-clause-written
+item-returns-in-21072-clause-written t c = search (rules, procedure-written)
 
-pub item-returns-then-mark-eq-BK-clause-written : goal.item-returns-then-mark-eq-BK-clause-written
-item-returns-then-mark-eq-BK-clause-written t c = search (rules, block-as-written)
+pub item-returns-in-19266-clause-written : goal.item-returns-in-19266-clause-written
+item-returns-in-19266-clause-written t c = search (rules, block-as-written)
 
-pub item-returns-clause-written : goal.item-returns-clause-written
-item-returns-clause-written t c = c.leaf.ensures.written _ _
+pub item-returns-in_default-clause-written : goal.item-returns-in_default-clause-written
+item-returns-in_default-clause-written t c = c.leaf.ensures.written _ _
 
 pub items-returns-then-script-here-clause-written : goal.items-returns-then-script-here-clause-written
 items-returns-then-script-here-clause-written t c = search (rules, walking-out)
 
-pub items-loop-i-preserved : goal.items-loop-i-preserved
-items-loop-i-preserved t c = search (rules, walking-step)
+pub items-loop-preserved : goal.items-loop-preserved
+items-loop-preserved t c = search (rules, walking-step)
 
 pub items-returns-clause-written : goal.items-returns-clause-written
 items-returns-clause-written t c = search (rules, walking-end)

@@ -13,9 +13,6 @@ decreases-item l = 3 * (length l.script.now - l.at) + 1
 abbrev pub decreases-items : goal.decreases-items
 decreases-items l = 3 * (length l.script.now - l.at) + 2
 
-abbrev pub invariant-items-loop-i : goal.invariant-items-loop-i
-invariant-items-loop-i l =
-    Walking l.script l.initial.entries l.entries l.initial.starts l.starts l.ends l.initial.code l.code l.name l.at l.here l.i l.count l.top l.level
-
-abbrev pub decreases-items-loop-i : goal.decreases-items-loop-i
-decreases-items-loop-i l = l.count - l.i
+abbrev pub invariant-items-loop : goal.invariant-items-loop
+invariant-items-loop l =
+    Walking l.script l.initial.entries l.entries l.initial.starts l.starts l.ends l.initial.code l.code l.name l.at l.here l.counter l.count l.top l.level

@@ -14,4 +14,4 @@ pub returns : goal.returns
 returns c =
     let p = c.requires in
     enters _ _ _ _ _ _ _ p.0.d-read _ _ _ _ _ _ _ _ _ _ p.1 c.declare-first.ensures c.insert.ensures c.kinds.ensures c.named-looked.ensures.0
-    c.head_word-head.ensures c.put_three.ensures
+    c.head_word-head.ensures c.put_all.ensures

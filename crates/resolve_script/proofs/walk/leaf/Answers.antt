@@ -3,14 +3,14 @@ use Rattle.resolve_script.proofs.Records.{variable-written, label-written, actio
 use borrow.Author.Rules.{rules}
 use Rattle.resolve_script.proofs.walk.leaf.Goals as goal
 
-pub returns-then-mark-eq-VR-clause-written : goal.returns-then-mark-eq-VR-clause-written
-returns-then-mark-eq-VR-clause-written c = search (rules, variable-written)
+pub returns-in-21078-clause-written : goal.returns-in-21078-clause-written
+returns-in-21078-clause-written c = search (rules, variable-written)
 
-pub returns-then-mark-eq-LB-clause-written : goal.returns-then-mark-eq-LB-clause-written
-returns-then-mark-eq-LB-clause-written c = search (rules, label-written)
+pub returns-in-16972-clause-written : goal.returns-in-16972-clause-written
+returns-in-16972-clause-written c = search (rules, label-written)
 
-pub returns-clause-written : goal.returns-clause-written
-returns-clause-written c = search (rules, action-written)
+pub returns-in_default-clause-written : goal.returns-in_default-clause-written
+returns-in_default-clause-written c = search (rules, action-written)
 
-pub returns-clause-onward : goal.returns-clause-onward
-returns-clause-onward c = search (rules, onward-alone)
+pub returns-in_default-clause-onward : goal.returns-in_default-clause-onward
+returns-in_default-clause-onward c = search (rules, onward-alone)
