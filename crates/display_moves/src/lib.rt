@@ -36,7 +36,8 @@ fn activation_end(code: &[u32; 4096], blocks: &[u16; 256], activation: usize) ->
     end_of(code_at(code, from_u16(blocks[activation]) + 1))
 }
 
-// The display becomes that of an activation of a level; the entries up to `sure` are those of the innermost activation before.
+// The display becomes that of an activation of a level; the entries up to `sure` are those of the innermost activation before. By `while`: each link leads to
+// the activation a level below, so that the two go down together, and a range taken backwards would say no more.
 fn restore(
     links: &[u16; 256],
     display: &mut [u16; 256],
