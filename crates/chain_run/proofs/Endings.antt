@@ -148,6 +148,22 @@ module _ {code : List ℕ} {cells : List ℤ} {records : List Activation} {here 
   abbrev EndedAt : {turn : Turn} → Ending code cells records here turn allowance left → Halt → List Activation → Type 0
   EndedAt e r records' = RunFrom e.from allowance r cells records' e.table
 
+  -- what the functions ask
+
+  pub left-within : {turn : Turn} → Ending code cells records here turn allowance left → left ≤ allowance
+  left-within e = few-left e.last.going
+
+  pub at-within-script : {turn : Turn} → Ending code cells records here turn allowance left → here.at ≤ 4096
+  at-within-script e = at_small e.last.going
+
+  pub live-within : {turn : Turn} → Ending code cells records here turn allowance left → here.live < 256
+  live-within e = live_small e.last.going
+
+  pub one_left : (turn : Turn) → Ending code cells records here turn allowance left → is_finished turn ≡ true → 1 ≤ left
+  one_left (Went n) e q = yes-no (sym q)
+  one_left Finished e q = e.last.ends.2
+  one_left (Stopped c) e q = yes-no (sym q)
+
   same-records : (turn : Turn) (e : Ending code cells records here turn allowance left) → is_finished turn ≡ false → records ≡ e.last.before
   same-records (Went n) e q = e.last.ends.1
   same-records Finished e q = yes-no q
