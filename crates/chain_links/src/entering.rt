@@ -9,7 +9,7 @@ use super::{Entry, innermost, with_next};
 use chain_records::{Activation, push, read};
 use layout::{cell_at, first_of, formals_of, names_of};
 use numbers::from_u32;
-use run_state::{Registers, narrow_u32};
+use run_state::Registers;
 use run_words::{clear, code_at};
 
 // The new activation's record.
@@ -20,9 +20,9 @@ fn begun(code: &[u32; 4096], entry: Entry) -> Activation
     let body = entry.body;
     let bounds = code_at(code, body + 1);
     Activation {
-        block: narrow_u32(body),
-        next: narrow_u32(first_of(bounds)),
-        link: narrow_u32(entry.link),
+        block: body as u32,
+        next: first_of(bounds) as u32,
+        link: entry.link as u32,
     }
 }
 

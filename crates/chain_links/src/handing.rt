@@ -50,10 +50,8 @@ pub fn hand(
         (only-cells code.now cells.old here.at) (here.at + 3) (last - 3)) }
 {
     let own = SHARE * here.live;
-    let mut field = 3;
-    while field < last {
+    for field in 3..last {
         let first = first_cell(code, records, here, own, field);
         pass(code, cells, here, field, first);
-        field = field + 1;
     }
 }

@@ -14,7 +14,7 @@ pub use entering::enter;
 use layout::{SHARE, end_of, level_of};
 use numbers::from_u32;
 use run_sheet::name_designator;
-use run_state::{Registers, narrow_u32};
+use run_state::Registers;
 use run_words::code_at;
 
 mod entering;
@@ -59,9 +59,8 @@ pub fn with_next(activation: Activation, place: usize) -> Activation
     ensures { result ≡ with_next activation place }
 {
     Activation {
-        block: activation.block,
-        next: narrow_u32(place),
-        link: activation.link,
+        next: place as u32,
+        ..activation
     }
 }
 
@@ -133,7 +132,7 @@ fn found_by(cells: &[i32; 8224], here: Registers, word: usize, home: usize) -> F
 {
     Found {
         designator: name_designator(cells, SHARE * home, word),
-        links: narrow_u32(links_to(here, word)),
+        links: links_to(here, word) as u32,
     }
 }
 

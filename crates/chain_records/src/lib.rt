@@ -36,10 +36,8 @@ pub fn follow(records: &[Activation], from: usize, count: usize) -> usize
         return from;
     }
     let mut activation = records[from].link as usize;
-    let mut left = count - 1;
-    while 0 < left {
+    for taken in 1..count {
         activation = records[activation].link as usize;
-        left = left - 1;
     }
     activation
 }

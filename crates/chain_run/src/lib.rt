@@ -4,6 +4,5 @@
 pub use run::run_program;
 pub use sheet::write_sheet;
 
-mod ending;
 pub mod run;
 pub mod sheet;

@@ -7,11 +7,11 @@ ghost use Rattle.chain_links.specs.Running.{activation_of, Running};
 ghost use Rattle.chain_run.specs.Running.{Beginning, Ended, RunFrom};
 ghost use Rattle.chain_run.specs.Ending.{start_by};
 
-use super::ending::{ended, halts, next_of};
+use chain_links::settle;
 use chain_records::{Activation, push};
-use chain_step::{step, went};
-use layout::{end_of, first_of, level_of};
-use run_state::{Halt, Registers, narrow_u32};
+use chain_step::step;
+use layout::{first_of, level_of};
+use run_state::{Halt, Registers, Turn, finished, named, spent, stopped};
 use run_words::code_at;
 
 // From any state in which the engine can stand.
@@ -33,10 +33,10 @@ pub fn run(
     ensures keeps_list { KeepsList limit table.old start.pairs groups.old table.new result.pairs groups.new }
 {
     let mut here = start;
-    let mut turn = went(start);
+    // Counted down, and not by `for`: each step passes here, and the loop's shape is the one that was measured.
     let mut left = allowance;
     while 0 < left {
-        turn = step(
+        match step(
             code,
             cells,
             records,
@@ -45,14 +45,22 @@ pub fn run(
             limit,
             activations,
             here,
-        );
-        if halts(turn) {
-            break;
+        ) {
+            Turn::Went(next) => {
+                here = next;
+                left -= 1;
+            }
+            Turn::Finished => return finished(here, allowance - left + 1),
+            Turn::Stopped(cause) => {
+                let halt = stopped(here, cause, allowance - left);
+                let found = settle(code, cells, records, here);
+                return named(halt, found.designator, found.links);
+            }
         }
-        here = next_of(here, turn);
-        left = left - 1;
     }
-    ended(code, cells, records, here, turn, allowance, left)
+    let halt = spent(here, allowance);
+    let found = settle(code, cells, records, here);
+    named(halt, found.designator, found.links)
 }
 
 // The program's record, and the state in which it begins.
@@ -61,7 +69,7 @@ fn program_record(code: &[u32; 4096]) -> Activation
 {
     Activation {
         block: 0,
-        next: narrow_u32(first_of(code_at(code, 1))),
+        next: first_of(code_at(code, 1)) as u32,
         link: 0,
     }
 }
@@ -69,15 +77,9 @@ fn program_record(code: &[u32; 4096]) -> Activation
 fn begin(code: &[u32; 4096], pairs: usize) -> Registers
     ensures { result ≡ start_by code.now pairs }
 {
-    let head = code_at(code, 0);
-    let bounds = code_at(code, 1);
     Registers {
-        live: 0,
-        at: first_of(bounds),
-        end: end_of(bounds),
-        pairs,
-        level: level_of(head),
-        fresh: 0,
+        level: level_of(code_at(code, 0)),
+        ..run_statements::begin(code, pairs)
     }
 }
 

@@ -56,11 +56,9 @@ pub fn write_sheet(
         → (sheet.new ≡ written (frame_sheet fs) sheet.old) × (result ≡ length (frame_sheet fs)) }
 {
     let mut at = 0;
-    let mut k = 0;
-    while k < live {
+    for k in 0..live {
         let activation = read(records, k);
         at = write_record(code, cells, activation, k, sheet, at);
-        k = k + 1;
     }
     at
 }

@@ -2,7 +2,6 @@
 #![tactic(auto)]
 
 pub use stepped::step;
-pub use turn::went;
 
 mod acted;
 mod stepped;

@@ -6,12 +6,14 @@ ghost use Rattle.chain_links.specs.Running.{Running};
 ghost use Rattle.chain_step.specs.Turning.{Turned, LeaveReady};
 
 use super::acted::acted;
-use super::turn::{
-    answered, asks, below, enters, entry_of, finished, home_of, is_done, resumed, turn_of, went,
-};
-use chain_links::{enter, left};
+use super::turn::Moved;
+use chain_links::{enter, innermost, left};
 use chain_records::{Activation, read};
 use run_state::{Registers, Turn};
+use run_statements::{after, asked};
+
+// Whose instance of `asked` it is.
+struct Engine;
 
 // At the end of its text the innermost activation is left.
 fn leave(code: &[u32; 4096], records: &[Activation], here: Registers) -> Turn
@@ -19,10 +21,10 @@ fn leave(code: &[u32; 4096], records: &[Activation], here: Registers) -> Turn
     ensures { (v : LeaveReady code.now records.now here) → Turned v.running result v.cells records.now v.table }
 {
     if here.live == 0 {
-        return finished();
+        return Turn::Finished;
     }
-    let activation = read(records, below(here));
-    went(left(code, here, activation))
+    let activation = read(records, here.live - 1);
+    Turn::Went(left(code, here, activation))
 }
 
 pub fn step(
@@ -44,16 +46,28 @@ pub fn step(
     if here.at == here.end {
         return leave(code, records, here);
     }
-    let done = acted(code, cells, records, activations, here);
-    if is_done(done) {
-        return turn_of(done);
+    match acted(code, cells, records, activations, here) {
+        Moved::Went(next) => Turn::Went(next),
+        Moved::Resume(home, place) => {
+            let activation = read(records, home);
+            Turn::Went(innermost(code, activation, home, place, here.pairs))
+        }
+        Moved::Enter(entry) => Turn::Went(enter(code, cells, records, here, entry)),
+        Moved::Stopped(cause) => Turn::Stopped(cause),
+        Moved::Table(asking) => after(
+            here,
+            asking.place,
+            asked::<Engine>(
+                table,
+                groups,
+                cells,
+                here.pairs,
+                limit,
+                asking.group,
+                asking.member,
+                asking.target,
+                asking.ask,
+            ),
+        ),
     }
-    if asks(done) {
-        return answered(table, groups, cells, limit, here, done);
-    }
-    if enters(done) {
-        return went(enter(code, cells, records, here, entry_of(done)));
-    }
-    let activation = read(records, home_of(done));
-    resumed(code, here, done, activation)
 }

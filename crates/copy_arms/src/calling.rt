@@ -64,10 +64,8 @@ fn arguments(
     let first = first_of(firsts, live);
     let start = start_of(starts, live);
     let to = cell_at(live, SHARE);
-    let mut i = 0;
-    while i < count {
+    for i in 0..count {
         cells[to + i] = handed(area, firsts, starts, targets, live, first, start, place + i);
-        i += 1;
     }
 }
 

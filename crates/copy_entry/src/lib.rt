@@ -6,7 +6,7 @@ ghost use Rattle.copy_entry.specs.Anew.{Enterable, Noted, NamesNoted, AnewIn};
 
 use copy_texts::{copy_text, renew};
 use layout::{SHARE, cell_at, end_of, first_of, formals_of, level_of, names_of};
-use run_state::{Registers, narrow, narrow_u32};
+use run_state::Registers;
 use run_words::{clear, code_at};
 
 // What is noted of a new activation: its block, the activation that encloses it, and where the activation below goes on. The links are for the
@@ -26,9 +26,9 @@ fn note(
 {
     let below = here.live;
     let live = below + 1;
-    nexts[below] = narrow(back);
-    blocks[live] = narrow(body);
-    links[live] = narrow(link);
+    nexts[below] = back as u16;
+    blocks[live] = body as u16;
+    links[live] = link as u16;
 }
 
 // Of its new names the first, and that name's cell.
@@ -37,8 +37,8 @@ fn note_names(firsts: &mut [u32; 256], starts: &mut [u16; 256], here: Registers,
     ensures { NamesNoted firsts.old starts.old here formals firsts.new starts.new }
 {
     let live = here.live + 1;
-    firsts[live] = narrow_u32(here.fresh);
-    starts[live] = narrow(cell_at(live, formals));
+    firsts[live] = here.fresh as u32;
+    starts[live] = cell_at(live, formals) as u16;
 }
 
 // A new activation of the block at a place, whose text is copied from the activation `link`. The arguments' words stand in its first cells, and

@@ -1,9 +1,7 @@
 // The run: steps until the program is left, a statement has a cause to stop, or the allowance is spent.
 ghost use Rattle.std.specs.Prelude.{◌≡◌, ◌<◌, set};
 ghost use Rattle.frames.specs.Frame.{frame_run, frame_start};
-ghost use Rattle.run_moves.specs.Acting.{answer};
 ghost use Rattle.table_laws.specs.Listing.{HasList, KeepsList};
-ghost use Rattle.table_pairs.specs.Outcomes.{table_of, change_of, count_after, words_after};
 ghost use Rattle.run_state.specs.Limits.{limits_by};
 ghost use Rattle.run_state.specs.Turns.{pairs_after};
 ghost use Rattle.copy_moves.specs.Running.{Running};
@@ -14,37 +12,12 @@ ghost use Rattle.copy_run.specs.Turning.{Ready, Turned, Ended, RunFrom};
 use copy_entry::enter;
 use copy_moves::{begin, looked_up};
 use copy_statements::act;
-use language::Stop;
-use run_moves::Ask;
 use run_records::{jump, leave, set_next};
 use run_state::{Halt, Registers, Turn, finished, named, spent, stopped};
-use run_statements::{Moved, after};
+use run_statements::{Moved, after, asked};
 
-// What the table answers.
-fn asked(
-    table: &mut [i32],
-    groups: &mut [i32],
-    cells: &mut [i32; 8224],
-    pairs: usize,
-    limit: u32,
-    group: usize,
-    member: usize,
-    target: usize,
-    ask: Ask,
-) -> Result<usize, Stop>
-    requires group_bound { (group < 8192) × ((member < 8192) × (target < 8192)) }
-    requires has_list { HasList limit table.old pairs groups.old }
-    ensures value { result ≡ change_of (answer limit cells.old (table_of table.old pairs) group member target ask).effect }
-    ensures cells_after { cells.new ≡ (answer limit cells.old (table_of table.old pairs) group member target ask).cells }
-    ensures table_after { table.new ≡ words_after table.old (answer limit cells.old (table_of table.old pairs) group member target ask).effect }
-    ensures keeps_list { KeepsList limit table.old pairs groups.old table.new (count_after pairs result) groups.new }
-{
-    match ask {
-        Ask::Add => run_statements::add(table, groups, cells, pairs, limit, group, member),
-        Ask::Remove => run_statements::remove(table, groups, cells, pairs, group, member),
-        Ask::Query => run_statements::query(table, cells, pairs, group, member, target),
-    }
-}
+// Whose instance of `asked` it is.
+struct Engine;
 
 pub fn step(
     code: &[u32; 4096],
@@ -105,7 +78,7 @@ pub fn step(
         Moved::Table(place, group, member, target, ask) => after(
             here,
             place,
-            asked(
+            asked::<Engine>(
                 table, groups, cells, here.pairs, limit, group, member, target, ask,
             ),
         ),
@@ -160,6 +133,7 @@ pub fn run(
     ensures keeps_list { KeepsList limit table.old start.pairs groups.old table.new result.pairs groups.new }
 {
     let mut here = start;
+    // Counted down, and not by `for`: each step passes here, and the loop's shape is the one that was measured.
     let mut left = allowance;
     while 0 < left {
         match step(

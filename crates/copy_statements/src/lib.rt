@@ -10,7 +10,7 @@ ghost use Rattle.copy_statements.specs.Scenes.{copy_by};
 
 use check_marks::{AD, AR, BK, CL, GO, IF, KN, RM};
 use copy_arms::{do_arithmetic, do_branch, do_call, do_constant, do_goto, field};
-use membership::{do_add_pair, do_query, do_remove_pair};
+use membership::{do_change, do_query};
 use run_statements::{Moved, came_to, do_block};
 
 mod membership;
@@ -51,8 +51,8 @@ pub fn act(
         )),
         GO => came_to(do_goto(area, firsts, starts, targets, live, place + 1)),
         BK => came_to(do_block(code, activations, live, at)),
-        AD => came_to(do_add_pair(area, firsts, starts, live, place, at)),
-        RM => came_to(do_remove_pair(area, firsts, starts, live, place, at)),
+        AD => came_to(do_change::<true>(area, firsts, starts, live, place, at)),
+        RM => came_to(do_change::<false>(area, firsts, starts, live, place, at)),
         _ => came_to(do_query(area, firsts, starts, live, place, at)),
     }
 }

@@ -10,7 +10,7 @@ ghost use Rattle.display_moves.specs.Moving.{level_at, end_at};
 
 use layout::{SHARE, cell_at, end_of, first_of, formals_of, level_of, names_of};
 use numbers::from_u16;
-use run_state::{Registers, narrow};
+use run_state::Registers;
 use run_words::{clear, code_at};
 
 // The level of the block at a place.
@@ -36,7 +36,8 @@ fn activation_end(code: &[u32; 4096], blocks: &[u16; 256], activation: usize) ->
     end_of(code_at(code, from_u16(blocks[activation]) + 1))
 }
 
-// The display becomes that of an activation of a level; the entries up to `sure` are those of the innermost activation before.
+// The display becomes that of an activation of a level; the entries up to `sure` are those of the innermost activation before. By `while`: each link leads to
+// the activation a level below, so that the two go down together, and a range taken backwards would say no more.
 fn restore(
     links: &[u16; 256],
     display: &mut [u16; 256],
@@ -56,7 +57,7 @@ fn restore(
                 return;
             }
         }
-        display[l] = narrow(SHARE * a);
+        display[l] = (SHARE * a) as u16;
         a = from_u16(links[a]);
         l -= 1;
     }
@@ -154,12 +155,12 @@ pub fn enter(
     let live = here.live;
     let head = code_at(code, body);
     let bounds = code_at(code, body + 1);
-    nexts[live] = narrow(back);
+    nexts[live] = back as u16;
     link_to(code, blocks, links, display, live, link);
     let fresh = live + 1;
-    blocks[fresh] = narrow(body);
-    links[fresh] = narrow(link);
-    display[level_of(head)] = narrow(SHARE * fresh);
+    blocks[fresh] = body as u16;
+    links[fresh] = link as u16;
+    display[level_of(head)] = (SHARE * fresh) as u16;
     clear(
         cells,
         cell_at(fresh, formals_of(head)),
@@ -180,5 +181,5 @@ pub fn note_place(nexts: &mut [u16; 256], here: Registers)
     ensures { nexts.new ≡ set nexts.old here.live here.at }
 {
     let live = here.live;
-    nexts[live] = narrow(here.at);
+    nexts[live] = here.at as u16;
 }

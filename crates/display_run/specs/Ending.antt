@@ -23,7 +23,8 @@ use Rattle.run_state.specs.Halts.{finished_after, spent_after, stopped_after, na
 use Rattle.run_state.specs.Ended.{RunFrom, from_start, finished-end, spent-end, stopped-end}
 use Rattle.display_moves.specs.Running.{Running, Looking, Placed}
 use Rattle.display_step.specs.Turning.{Arrays, arrays_of, Turned, TurnsTo}
-use Rattle.display_run.specs.Program.{Beginning, Ended, start_by}
+use Rattle.run_statements.specs.Beginning.{start_by}
+use Rattle.display_run.specs.Program.{Beginning, Ended}
 
 module _ {code : List ℕ} {activations limit : ℕ} {cells : List ℤ} {blocks nexts links display : List ℕ} {table : List ℤ} {start : Registers}
     (w : Running code activations limit cells blocks nexts links display table start) (allowance : ℕ) where

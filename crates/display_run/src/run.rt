@@ -5,14 +5,14 @@ ghost use Rattle.frames.specs.Frame.{designates, frame_run, frame_start};
 ghost use Rattle.run_state.specs.Limits.{limits_by};
 ghost use Rattle.run_state.specs.Ended.{RunFrom};
 ghost use Rattle.display_moves.specs.Running.{Running, Looking, Placed};
-ghost use Rattle.display_run.specs.Program.{Beginning, Ended, start_by};
+ghost use Rattle.display_run.specs.Program.{Beginning, Ended};
 
 use display_moves::note_place;
 use display_step::{cell, step};
-use layout::{end_of, first_of};
 use numbers::from_u16;
 use run_sheet::designator_of;
 use run_state::{Halt, Registers, Turn, finished, named, spent, stopped};
+use run_statements::begin;
 use run_words::code_at;
 
 // The designator of the looked-up name, whose word stands in the innermost block; 0 where it is not visible.
@@ -72,6 +72,7 @@ pub fn run(
     ensures keeps_list { KeepsList limit table.old start.pairs groups.old table.new result.pairs groups.new }
 {
     let mut here = start;
+    // Counted down, and not by `for`: each step passes here, and the loop's shape is the one that was measured.
     let mut left = allowance;
     while 0 < left {
         match step(
@@ -100,21 +101,6 @@ pub fn run(
     }
     let halt = spent(here, allowance);
     named(halt, settle(code, cells, blocks, nexts, display, here), 0)
-}
-
-// Where the program begins.
-fn begin(code: &[u32; 4096], pairs: usize) -> Registers
-    ensures { result ≡ start_by code.now pairs }
-{
-    let bounds = code_at(code, 1);
-    Registers {
-        live: 0,
-        at: first_of(bounds),
-        end: end_of(bounds),
-        pairs,
-        level: 0,
-        fresh: 0,
-    }
 }
 
 pub fn run_program(

@@ -185,11 +185,9 @@ fn arguments(
     ensures { cells.new ≡ set_all cells.old (next_first live) (arguments_from (by_display cells.old display.now) (only-cells code.now cells.old at) at count) }
 {
     let first = SHARE * live + SHARE;
-    let mut i = 0;
-    while i < count {
+    for i in 0..count {
         let word = code_at(code, at + i);
         cells[first + i] = run_words::handed(cells, word, own_cell(display, word));
-        i += 1;
     }
 }
 

@@ -1,20 +1,16 @@
 // A step of the display engine: a name is found by its level and position, the activation of each enclosing level in the display.
 #![tactic(auto)]
 
-ghost use Rattle.std.specs.Prelude.{◌≡◌, ◌<◌};
-ghost use Rattle.run_moves.specs.Acting.{answer};
 ghost use Rattle.table_laws.specs.Listing.{HasList, KeepsList};
-ghost use Rattle.table_pairs.specs.Outcomes.{table_of, change_of, count_after, words_after};
 ghost use Rattle.run_state.specs.Turns.{pairs_after};
 ghost use Rattle.display_moves.specs.Running.{Running};
 ghost use Rattle.display_step.specs.Turning.{TurnsTo};
 
 use act::act;
 use display_moves::{enter, jump, leave};
-use language::Stop;
-use run_moves::{Ask, Move};
+use run_moves::Move;
 use run_state::{Registers, Turn};
-use run_statements::after;
+use run_statements::{after, asked};
 
 mod act;
 mod arms;
@@ -22,31 +18,8 @@ mod names;
 
 pub use names::cell;
 
-// What the table answers.
-fn asked(
-    table: &mut [i32],
-    groups: &mut [i32],
-    cells: &mut [i32; 8224],
-    pairs: usize,
-    limit: u32,
-    group: usize,
-    member: usize,
-    target: usize,
-    ask: Ask,
-) -> Result<usize, Stop>
-    requires group_bound { (group < 8192) × ((member < 8192) × (target < 8192)) }
-    requires has_list { HasList limit table.old pairs groups.old }
-    ensures value { result ≡ change_of (answer limit cells.old (table_of table.old pairs) group member target ask).effect }
-    ensures cells_after { cells.new ≡ (answer limit cells.old (table_of table.old pairs) group member target ask).cells }
-    ensures table_after { table.new ≡ words_after table.old (answer limit cells.old (table_of table.old pairs) group member target ask).effect }
-    ensures keeps_list { KeepsList limit table.old pairs groups.old table.new (count_after pairs result) groups.new }
-{
-    match ask {
-        Ask::Add => run_statements::add(table, groups, cells, pairs, limit, group, member),
-        Ask::Remove => run_statements::remove(table, groups, cells, pairs, group, member),
-        Ask::Query => run_statements::query(table, cells, pairs, group, member, target),
-    }
-}
+// Whose instance of `asked` it is.
+struct Engine;
 
 pub fn step(
     code: &[u32; 4096],
@@ -80,7 +53,7 @@ pub fn step(
         Move::Table(place, group, member, target, ask) => after(
             here,
             place,
-            asked(
+            asked::<Engine>(
                 table, groups, cells, here.pairs, limit, group, member, target, ask,
             ),
         ),

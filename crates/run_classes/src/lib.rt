@@ -13,7 +13,7 @@ use run_moves::{Ask, Move};
 use run_words::code_at;
 
 // The classes of statements: GO, BK, CL, and KN of a formal; AR where no name is a formal, by its operation, and AR where one is; IF; AD and RM; QY; KN of
-// no formal. What is done most has a class of its own, so that one jump leads to it.
+// no formal. What is done most has a class of its own, so that one jump leads to it. They are numbers, as in the definition `class_of`.
 pub const CLASS_ONE: usize = 0;
 
 pub const CLASS_ADD: usize = 1;

@@ -7,7 +7,7 @@ ghost use Rattle.run_records.specs.Resumed.{now_at};
 
 use layout::end_of;
 use numbers::from_u16;
-use run_state::{Registers, narrow};
+use run_state::Registers;
 use run_words::code_at;
 
 // An activation of the stack becomes the innermost one and goes on at a place.
@@ -69,5 +69,5 @@ pub fn set_next(nexts: &mut [u16; 256], live: usize, at: usize)
     requires { (live < 256) × (at < 65536) }
     ensures { nexts.new ≡ set nexts.old live at }
 {
-    nexts[live] = narrow(at);
+    nexts[live] = at as u16;
 }

@@ -95,18 +95,3 @@ pub fn named(halt: Halt, designator: u32, links: u32) -> Halt
         ..halt
     }
 }
-
-// Indices as numbers of the arrays, which have 16 bits or 32.
-pub fn narrow(x: usize) -> u16
-    requires { x < 65536 }
-    ensures { result ≡ x }
-{
-    x as u16
-}
-
-pub fn narrow_u32(x: usize) -> u32
-    requires { x < 4294967296 }
-    ensures { result ≡ x }
-{
-    x as u32
-}

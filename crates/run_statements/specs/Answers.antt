@@ -129,11 +129,11 @@ module _ {code : List ℕ} {l : Limits} {cells : List ℤ} {blocks nexts links :
   unfolding change_of words_after
   goes_by p n cells' (leaves t) m q = subst (λ k. GoesOn w cells' t.words k p) (count q) m
     where
-      count : Ok t.used ≡ Ok n → t.used ≡ n
+      count : ◌≡◌ {A = Change} (Ok t.used) (Ok n) → t.used ≡ n
       count e = cc
   goes_by p n cells' (halts c) m q = absurd (other q)
     where
-      other : Err c ≡ Ok n → ⊥
+      other : ◌≡◌ {A = Change} (Err c) (Ok n) → ⊥
       other e = let z : ◌≡◌ {A = ℕ} 0 1 = cc in absurd (omega arith)
 
   halts_by : (p : ℕ) (c : Stop) (cells' : List ℤ) (e : Effect) → EffectMeans w p cells' e → change_of e ≡ Err c
@@ -141,11 +141,11 @@ module _ {code : List ℕ} {l : Limits} {cells : List ℤ} {blocks nexts links :
   unfolding change_of words_after
   halts_by p c cells' (leaves t) m q = absurd (other q)
     where
-      other : Ok t.used ≡ Err c → ⊥
+      other : ◌≡◌ {A = Change} (Ok t.used) (Err c) → ⊥
       other e = let z : ◌≡◌ {A = ℕ} 0 1 = cc in absurd (omega arith)
   halts_by p c cells' (halts d) m q = (m.0 ∙ ap halted (cause q), m.1, refl)
     where
-      cause : Err d ≡ Err c → d ≡ c
+      cause : ◌≡◌ {A = Change} (Err d) (Err c) → d ≡ c
       cause e = cc
 
   module _ (p : ℕ) (x : Answer) (m : AnswerMeans w p x) (r : Change) (cells' table' : List ℤ) (h : Answered x table r cells' table') where

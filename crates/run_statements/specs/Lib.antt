@@ -6,3 +6,4 @@ pub mod Doing
 pub mod Scenes
 pub mod Numbers
 pub mod Answers
+pub mod Beginning

@@ -4,17 +4,34 @@
 ghost use Rattle.std.specs.Prelude.{◌≡◌, ◌+◌, ◌<◌, ◌≤◌, get_or, set};
 ghost use Rattle.language.specs.Encoding.{signed};
 ghost use Rattle.run_statements.specs.Pieces.{block_move, move_after};
+ghost use Rattle.run_statements.specs.Beginning.{start_by};
 
 use language::Stop;
-use layout::end_of;
+use layout::{end_of, first_of};
 use run_moves::Move;
+use run_state::Registers;
 use run_words::code_at;
 
 mod membership;
 mod moved;
 
-pub use membership::{add, after, query, remove};
+pub use membership::{add, after, asked, query, remove};
 pub use moved::{Moved, came_to};
+
+// Where a program begins.
+pub fn begin(code: &[u32; 4096], pairs: usize) -> Registers
+    ensures { result ≡ start_by code.now pairs }
+{
+    let bounds = code_at(code, 1);
+    Registers {
+        live: 0,
+        at: first_of(bounds),
+        end: end_of(bounds),
+        pairs,
+        level: 0,
+        fresh: 0,
+    }
+}
 
 // KN, with its target's cell.
 pub fn constant(code: &[u32; 4096], cells: &mut [i32; 8224], target: usize, at: usize) -> Move

@@ -1,5 +1,4 @@
-// What the membership table answers, for all engines: group, member and target are cells. Each engine chooses among the three by what was asked: a function
-// that chooses for all is a call, and table work on 8 pairs then takes 10 to 16 % more instructions.
+// What the membership table answers, for all engines: group, member and target are cells.
 ghost use Rattle.std.specs.Prelude.{◌≡◌, ℕ, ◌<◌};
 ghost use Rattle.run_moves.specs.Acting.{answer};
 ghost use Rattle.run_moves.specs.declared.Ask.TheVariants.{Add, Remove, Query as Queried};
@@ -8,6 +7,7 @@ ghost use Rattle.table_pairs.specs.Outcomes.{table_of, change_of, count_after, w
 ghost use Rattle.run_statements.specs.Answers.{turn_after};
 
 use language::Stop;
+use run_moves::Ask;
 use run_state::{Registers, Turn};
 
 pub fn add(
@@ -63,12 +63,35 @@ pub fn query(
 {
     let of = cells[group];
     let who = cells[member];
-    match table_pairs::query_pair(table, pairs, of, who) {
-        Ok(value) => {
-            run_words::store(cells, target, value);
-            Ok(pairs)
-        }
-        Err(cause) => Err(cause),
+    let value = table_pairs::query_pair(table, pairs, of, who)?;
+    run_words::store(cells, target, value);
+    Ok(pairs)
+}
+
+// By what is asked, once for each engine `E`: a function that all engines call is not compiled into their steps, and table work on 8 pairs then takes 10 to
+// 16 % more instructions.
+pub fn asked<E>(
+    table: &mut [i32],
+    groups: &mut [i32],
+    cells: &mut [i32; 8224],
+    pairs: usize,
+    limit: u32,
+    group: usize,
+    member: usize,
+    target: usize,
+    ask: Ask,
+) -> Result<usize, Stop>
+    requires group_bound { (group < 8192) × ((member < 8192) × (target < 8192)) }
+    requires has_list { HasList limit table.old pairs groups.old }
+    ensures value { result ≡ change_of (answer limit cells.old (table_of table.old pairs) group member target ask).effect }
+    ensures cells_after { cells.new ≡ (answer limit cells.old (table_of table.old pairs) group member target ask).cells }
+    ensures table_after { table.new ≡ words_after table.old (answer limit cells.old (table_of table.old pairs) group member target ask).effect }
+    ensures keeps_list { KeepsList limit table.old pairs groups.old table.new (count_after pairs result) groups.new }
+{
+    match ask {
+        Ask::Add => add(table, groups, cells, pairs, limit, group, member),
+        Ask::Remove => remove(table, groups, cells, pairs, group, member),
+        Ask::Query => query(table, cells, pairs, group, member, target),
     }
 }
 

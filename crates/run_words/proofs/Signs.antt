@@ -3,10 +3,10 @@ use Prim.Native.Nat.{ℕ, zero, suc, ◌-◌, ◌<◌, ◌≤◌}
 use mathlib.Core.Path.{◌≡◌, refl, sym, subst, ap, ◌∙◌}
 use mathlib.Core.Bool.{Bool, true, false, cond}
 use native.Mathlib.Omega.{arith}
-use borrow.Author.Tests.{ltb-true, ltb-false, lt-ltb, le-ltb, leb-true, leb-false}
-use lib.Dec.{T, ltb, leb}
+use borrow.Author.Tests.{ltb-true, ltb-false, lt-ltb, le-ltb}
+use lib.Dec.{T, ltb}
 use lib.IntN.{ℤ, pos, negsuc, neg_ℤ, nat_abs, ◌+ℤ◌, ◌-ℤ◌}
-use lib.Signed.{mag, lt_z, le_z, non_neg}
+use lib.Signed.{mag, lt_z, non_neg}
 use mir.Val.{Fits, SFits, of_z, to_z}
 use mir.Syntax.{w32, w64}
 use mir.Facts.{to_z-of_z, to_z_pos, sfits_widen}
@@ -62,15 +62,16 @@ pub difference-read :
     to_z w64 (of_z w64 (to_z w64 (of_z w64 (to_z w32 (of_z w32 x))) -ℤ to_z w64 (of_z w64 (to_z w32 (of_z w32 y))))) ≡ x -ℤ y
 difference-read x y f g = to_z-of_z (difference-fits x y f g) ∙ rw (back x f, back y g)
 
+-- what two words come to, as each is read, widened and read back
 pub sum-of-words :
-    {r : ℤ} (a b : ℤ) → r ≡ to_z w32 (of_z w32 a) +ℤ to_z w32 (of_z w32 b) → mag r < 9223372036854775808 → mag a < 2147483648 →
-    mag b < 2147483648 → to_z w64 (of_z w64 r) ≡ a +ℤ b
-sum-of-words {r} a b e h ha hb = read-back-wide r h ∙ e ∙ rw (read_back a ha, read_back b hb)
+    {x y : ℤ} (a b : ℤ) → SFits w32 a → SFits w32 b → x ≡ to_z w32 (of_z w32 a) → y ≡ to_z w32 (of_z w32 b) →
+    to_z w64 (of_z w64 (to_z w64 (of_z w64 x) +ℤ to_z w64 (of_z w64 y))) ≡ a +ℤ b
+sum-of-words a b f g p q = rw (p, q) (sum-read a b f g)
 
 pub difference-of-words :
-    {r : ℤ} (a b : ℤ) → r ≡ to_z w32 (of_z w32 a) -ℤ to_z w32 (of_z w32 b) → mag r < 9223372036854775808 → mag a < 2147483648 →
-    mag b < 2147483648 → to_z w64 (of_z w64 r) ≡ a -ℤ b
-difference-of-words {r} a b e h ha hb = read-back-wide r h ∙ e ∙ rw (read_back a ha, read_back b hb)
+    {x y : ℤ} (a b : ℤ) → SFits w32 a → SFits w32 b → x ≡ to_z w32 (of_z w32 a) → y ≡ to_z w32 (of_z w32 b) →
+    to_z w64 (of_z w64 (to_z w64 (of_z w64 x) -ℤ to_z w64 (of_z w64 y))) ≡ a -ℤ b
+difference-of-words a b f g p q = rw (p, q) (difference-read a b f g)
 
 -- A signed number from its bits
 
@@ -100,13 +101,13 @@ pub too-low : (z : ℤ) → lt_z z (negsuc 2147483647) ≡ true → ltb (mag z) 
 too-low (pos n) e = let z : ◌≡◌ {A = ℕ} 0 1 = cc in absurd (omega arith)
 too-low (negsuc n) e = le-ltb n 2147483648 (omega (arith, ltb-true 2147483647 n e))
 
-pub not-too-low : (z : ℤ) → lt_z z (negsuc 2147483647) ≡ false → le_z z (pos 2147483647) ≡ ltb (mag z) 2147483648
-not-too-low (pos n) e = go (leb n 2147483647) refl
-  where
-    go : (t : Bool) → leb n 2147483647 ≡ t → leb n 2147483647 ≡ ltb n 2147483648
-    go true q = q ∙ sym (lt-ltb n 2147483648 (omega (arith, leb-true n 2147483647 q)))
-    go false q = q ∙ sym (le-ltb n 2147483648 (omega (arith, leb-false n 2147483647 q)))
-not-too-low (negsuc n) e = sym (lt-ltb n 2147483648 (omega (arith, ltb-false 2147483647 n e)))
+pub too-high : (z : ℤ) → lt_z (pos 2147483647) z ≡ true → ltb (mag z) 2147483648 ≡ false
+too-high (pos n) e = le-ltb n 2147483648 (omega (arith, ltb-true 2147483647 n e))
+too-high (negsuc n) e = let z : ◌≡◌ {A = ℕ} 0 1 = cc in absurd (omega arith)
+
+pub between : (z : ℤ) → lt_z z (negsuc 2147483647) ≡ false → lt_z (pos 2147483647) z ≡ false → ltb (mag z) 2147483648 ≡ true
+between (pos n) low high = lt-ltb n 2147483648 (omega (arith, ltb-false 2147483647 n high))
+between (negsuc n) low high = lt-ltb n 2147483648 (omega (arith, ltb-false 2147483647 n low))
 
 pub not_negative : (z : ℤ) → mag z < 2147483648 → lt_z z (pos 0) ≡ false → T (non_neg z) × Fits w64 (nat_abs z)
 not_negative (pos n) h e = (tt, record { fits = omega (arith, h) })

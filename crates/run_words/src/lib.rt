@@ -2,8 +2,8 @@
 // has 32 cells, one for each name; the array has room after them, so that clearing goes by four.
 #![tactic(auto)]
 
-ghost use Rattle.std.specs.Prelude.{◌≡◌, false, ◌+◌, ◌*◌, ◌<◌, ◌≤◌, ◌^◌, ltb, ℤ, pos, ◌+ℤ◌, ◌-ℤ◌, get_or, set};
-ghost use Rattle.std.specs.Int.Signed.{mag, lt_z};
+ghost use Rattle.std.specs.Prelude.{◌≡◌, false, ◌+◌, ◌*◌, ◌<◌, ◌≤◌, ◌^◌, pos, get_or, set};
+ghost use Rattle.std.specs.Int.Signed.{lt_z};
 ghost use Rattle.language.specs.Encoding as encoding;
 ghost use Rattle.language.specs.Text.{plus, minus, less};
 ghost use Rattle.language.specs.Machine.{compute};
@@ -19,35 +19,6 @@ pub fn code_at(code: &[u32; 4096], at: usize) -> usize
     ensures { (result ≡ get_or code.now at 0) × (result < 2 ^ 32) }
 {
     from_u32(code[at])
-}
-
-fn sum(a: i32, b: i32) -> i64
-    ensures { result ≡ a +ℤ b }
-{
-    a as i64 + b as i64
-}
-
-fn difference(a: i32, b: i32) -> i64
-    ensures { result ≡ a -ℤ b }
-{
-    a as i64 - b as i64
-}
-
-// Whether a value fits a word.
-fn fits_word(v: i64) -> bool
-    ensures { result ≡ ltb (mag v) 2147483648 }
-{
-    if v < 0 - 2147483648 {
-        return false;
-    }
-    v <= 2147483647
-}
-
-fn narrowed(v: i64) -> i32
-    requires { mag v < 2147483648 }
-    ensures { result ≡ v }
-{
-    v as i32
 }
 
 // A word that is not negative.
@@ -83,15 +54,16 @@ pub fn store(cells: &mut [i32; 8224], cell: usize, value: i32)
     cells[cell] = value;
 }
 
+// Where it fits a word. By these two tests and not by `i32::try_from`, which goes by sign and magnitude: sums are what is done most.
 fn keep(cells: &mut [i32; 8224], cell: usize, value: i64) -> Result<(), Stop>
     requires { cell < 8192 }
     ensures { (result ≡ effect_of value) × (cells.new ≡ cells_of cells.old cell value) }
 {
-    if fits_word(value) {
-        cells[cell] = narrowed(value);
-        return Ok(());
+    if value < i64::from(i32::MIN) || i64::from(i32::MAX) < value {
+        return Err(Stop::ResultTooLarge);
     }
-    Err(Stop::ResultTooLarge)
+    cells[cell] = value as i32;
+    Ok(())
 }
 
 // AR: the cells of target, left and right.
@@ -100,7 +72,7 @@ pub fn add(cells: &mut [i32; 8224], target: usize, left: usize, right: usize) ->
     ensures value { result ≡ effect_of (compute plus (get_or cells.old left (pos 0)) (get_or cells.old right (pos 0))) }
     ensures cells_after { cells.new ≡ cells_of cells.old target (compute plus (get_or cells.old left (pos 0)) (get_or cells.old right (pos 0))) }
 {
-    let value = sum(cells[left], cells[right]);
+    let value = i64::from(cells[left]) + i64::from(cells[right]);
     keep(cells, target, value)
 }
 
@@ -114,7 +86,7 @@ pub fn subtract(
     ensures value { result ≡ effect_of (compute minus (get_or cells.old left (pos 0)) (get_or cells.old right (pos 0))) }
     ensures cells_after { cells.new ≡ cells_of cells.old target (compute minus (get_or cells.old left (pos 0)) (get_or cells.old right (pos 0))) }
 {
-    let value = difference(cells[left], cells[right]);
+    let value = i64::from(cells[left]) - i64::from(cells[right]);
     keep(cells, target, value)
 }
 
@@ -145,12 +117,10 @@ pub fn kinds_agree(code: &[u32; 4096], arguments: usize, formals: usize, count: 
     requires { (arguments + count ≤ 4096) × (formals + 3 * count ≤ 4096) }
     ensures { result ≡ same_kinds code.now arguments formals count }
 {
-    let mut i = 0;
-    while i < count {
+    for i in 0..count {
         if kind_of(code_at(code, arguments + i)) != code_at(code, formals + 3 * i + 2) {
             return false;
         }
-        i += 1;
     }
     true
 }
@@ -159,10 +129,8 @@ fn clear_more(cells: &mut [i32; 8224], from: usize, to: usize)
     requires { to ≤ 8192 }
     ensures { Cleared cells.old from to cells.new }
 {
-    let mut i = from;
-    while i < to {
+    for i in from..to {
         cells[i] = 0;
-        i += 1;
     }
 }
 

@@ -15,7 +15,6 @@ use language::Stop;
 use layout::{PROCEDURE, SHARE, formal_of, formals_of, kind_of, lead_of, position_of, target_of};
 use numbers::from_u16;
 use run_moves::Move;
-use run_state::narrow;
 use run_words::code_at;
 use search_names::{first_cell, near_cell};
 
@@ -39,7 +38,7 @@ fn hand(
     cells[to] = run_words::handed(cells, word, own);
     if kind_of(word) == PROCEDURE {
         if formal_of(word) == 0 {
-            passers[to] = narrow(live);
+            passers[to] = live as u16;
         } else {
             passers[to] = passers[own];
         }
@@ -62,8 +61,7 @@ fn arguments(
     ensures { AllHanded code.now numbers.now blocks.now froms.now live cells.old passers.old at count cells.new passers.new }
 {
     let first = SHARE * live + SHARE;
-    let mut i = 0;
-    while i < count {
+    for i in 0..count {
         hand(
             code,
             numbers,
@@ -75,7 +73,6 @@ fn arguments(
             at + i,
             first + i,
         );
-        i += 1;
     }
 }
 

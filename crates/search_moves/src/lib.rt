@@ -4,7 +4,7 @@
 ghost use Rattle.search_moves.specs.Entry.{Enterable, EnteredIn};
 
 use layout::{cell_at, end_of, first_of, formals_of, names_of};
-use run_state::{Registers, narrow};
+use run_state::Registers;
 use run_words::{clear, code_at};
 
 // A new activation of the block at a place, from which the search goes on at `from`. The arguments stand in its first cells, and their passers beside them.
@@ -26,10 +26,10 @@ pub fn enter(
     let live = here.live;
     let head = code_at(code, body);
     let bounds = code_at(code, body + 1);
-    nexts[live] = narrow(back);
+    nexts[live] = back as u16;
     let fresh = live + 1;
-    blocks[fresh] = narrow(body);
-    froms[fresh] = narrow(from);
+    blocks[fresh] = body as u16;
+    froms[fresh] = from as u16;
     clear(
         cells,
         cell_at(fresh, formals_of(head)),

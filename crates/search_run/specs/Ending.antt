@@ -33,7 +33,8 @@ use Rattle.run_state.specs.Halts.{finished_after, spent_after, stopped_after, na
 use Rattle.run_state.specs.Ended.{from_start, finished-end, spent-end, stopped-end}
 use Rattle.search_moves.specs.Running.{Froms, Passers, Running}
 use Rattle.search_step.specs.Turning.{Arrays, Turned, TurnsTo}
-use Rattle.search_run.specs.Program.{Beginning, EndedIn, Ended, start_by}
+use Rattle.run_statements.specs.Beginning.{start_by}
+use Rattle.search_run.specs.Program.{Beginning, EndedIn, Ended}
 use Rattle.search_run.specs.Looked.{Looking}
 
 abbrev pub RunFrom : {code numbers : List ℕ} {activations limit : ℕ} {cells : List ℤ} {passers blocks nexts froms : List ℕ} {table : List ℤ} {start : Registers}

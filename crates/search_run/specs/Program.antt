@@ -19,10 +19,6 @@ use Rattle.search_run.specs.declared.state.State.{State}
 abbrev pub start_state : State
 start_state = record { passers = replicate 8192 0; blocks = replicate 256 0; nexts = replicate 256 0; froms = replicate 256 0 }
 
--- where it begins
-abbrev pub start_by : List ℕ → ℕ → Registers
-start_by code pairs = record { live = 0; at = first_in (get_or code 1 0); end = end_in (get_or code 1 0); pairs = pairs; level = 0; fresh = 0 }
-
 -- what it begins with: what every engine's run does (`Begun`), the numbers of the program's names, and arrays of its own with zeros for the first activation
 pub record Beginning (code numbers : List ℕ) (cells : List ℤ) (passers blocks nexts froms : List ℕ) (table : List ℤ) (pairs limit activations : ℕ) : Type 0 where
   pub begun : Begun code cells table pairs limit activations

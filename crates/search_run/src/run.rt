@@ -4,15 +4,15 @@ ghost use Rattle.table_laws.specs.Listing.{HasList, KeepsList};
 ghost use Rattle.frames.specs.Frame.{designates, frame_run, frame_start};
 ghost use Rattle.run_state.specs.Limits.{limits_by};
 ghost use Rattle.search_moves.specs.Running.{Running};
-ghost use Rattle.search_run.specs.Program.{Beginning, Ended, start_by};
+ghost use Rattle.search_run.specs.Program.{Beginning, Ended};
 ghost use Rattle.search_run.specs.Looked.{Looking};
 ghost use Rattle.search_run.specs.Ending.{RunFrom};
 
-use layout::{end_of, first_of};
 use numbers::from_u16;
 use run_records::set_next;
 use run_sheet::name_designator;
 use run_state::{Halt, Registers, Turn, finished, named, spent, stopped};
+use run_statements::begin;
 use run_words::code_at;
 use search_names::first_cell;
 use search_step::step;
@@ -76,6 +76,7 @@ pub fn run(
     ensures keeps_list { KeepsList limit table.old start.pairs groups.old table.new result.pairs groups.new }
 {
     let mut here = start;
+    // Counted down, and not by `for`: each step passes here, and the loop's shape is the one that was measured.
     let mut left = allowance;
     while 0 < left {
         match step(
@@ -113,21 +114,6 @@ pub fn run(
         settle(code, numbers, cells, blocks, nexts, froms, here),
         0,
     )
-}
-
-// Where the program begins.
-fn begin(code: &[u32; 4096], pairs: usize) -> Registers
-    ensures { result ≡ start_by code.now pairs }
-{
-    let bounds = code_at(code, 1);
-    Registers {
-        live: 0,
-        at: first_of(bounds),
-        end: end_of(bounds),
-        pairs,
-        level: 0,
-        fresh: 0,
-    }
 }
 
 pub fn run_program(

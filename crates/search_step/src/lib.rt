@@ -1,50 +1,22 @@
 // A step of the search engine: a name is found by its number, along the callers' chain and, after an entry through a formal, from that formal's passer on.
 #![tactic(auto)]
 
-ghost use Rattle.std.specs.Prelude.{◌≡◌, ◌<◌};
-ghost use Rattle.run_moves.specs.Acting.{answer};
 ghost use Rattle.table_laws.specs.Listing.{HasList, KeepsList};
-ghost use Rattle.table_pairs.specs.Outcomes.{table_of, change_of, count_after, words_after};
 ghost use Rattle.run_state.specs.Turns.{pairs_after};
 ghost use Rattle.search_moves.specs.Running.{Running};
 ghost use Rattle.search_step.specs.Turning.{arrays_of, TurnsTo};
 
 use act::act;
-use language::Stop;
-use run_moves::Ask;
 use run_records::{jump, leave};
 use run_state::{Registers, Turn};
-use run_statements::{Moved, after};
+use run_statements::{Moved, after, asked};
 use search_moves::enter;
 
 mod act;
 mod arms;
 
-// What the table answers.
-fn asked(
-    table: &mut [i32],
-    groups: &mut [i32],
-    cells: &mut [i32; 8224],
-    pairs: usize,
-    limit: u32,
-    group: usize,
-    member: usize,
-    target: usize,
-    ask: Ask,
-) -> Result<usize, Stop>
-    requires group_bound { (group < 8192) × ((member < 8192) × (target < 8192)) }
-    requires has_list { HasList limit table.old pairs groups.old }
-    ensures value { result ≡ change_of (answer limit cells.old (table_of table.old pairs) group member target ask).effect }
-    ensures cells_after { cells.new ≡ (answer limit cells.old (table_of table.old pairs) group member target ask).cells }
-    ensures table_after { table.new ≡ words_after table.old (answer limit cells.old (table_of table.old pairs) group member target ask).effect }
-    ensures keeps_list { KeepsList limit table.old pairs groups.old table.new (count_after pairs result) groups.new }
-{
-    match ask {
-        Ask::Add => run_statements::add(table, groups, cells, pairs, limit, group, member),
-        Ask::Remove => run_statements::remove(table, groups, cells, pairs, group, member),
-        Ask::Query => run_statements::query(table, cells, pairs, group, member, target),
-    }
-}
+// Whose instance of `asked` it is.
+struct Engine;
 
 pub fn step(
     code: &[u32; 4096],
@@ -90,7 +62,7 @@ pub fn step(
         Moved::Table(place, group, member, target, ask) => after(
             here,
             place,
-            asked(
+            asked::<Engine>(
                 table, groups, cells, here.pairs, limit, group, member, target, ask,
             ),
         ),

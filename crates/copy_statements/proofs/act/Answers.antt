@@ -47,17 +47,17 @@ do_goto-requires c =
     let scene : Scene = scene_by c.args.code.now c.args.cells.now c.args.activations c.args.live c.args.at in
     goto-asks copy scene c.requires (mark-is copy scene c.field-mark.ensures.0 (ap mark_of c.in-20295.is))
 
-pub do_add_pair-requires : goal.do_add_pair-requires
+pub do_change-requires : goal.do_change-requires
 unfolding mark_of
-do_add_pair-requires c =
+do_change-requires c =
     let copy : Copy = copy_by c.args.area.now c.args.base c.args.firsts.now c.args.starts.now c.args.targets.now in
     let scene : Scene = scene_by c.args.code.now c.args.cells.now c.args.activations c.args.live c.args.at in
     let q = pair-asks copy scene c.requires (mark-is copy scene c.field-mark.ensures.0 (ap mark_of c.in-17473.is)) in
     record { at_bound = q.0; name_at = q.1.0; name_at_2 = q.1.1 }
 
-pub do_remove_pair-requires : goal.do_remove_pair-requires
+pub do_change-requires-in-19794 : goal.do_change-requires-in-19794
 unfolding mark_of
-do_remove_pair-requires c =
+do_change-requires-in-19794 c =
     let copy : Copy = copy_by c.args.area.now c.args.base c.args.firsts.now c.args.starts.now c.args.targets.now in
     let scene : Scene = scene_by c.args.code.now c.args.cells.now c.args.activations c.args.live c.args.at in
     let q = unpair-asks copy scene c.requires (mark-is copy scene c.field-mark.ensures.0 (ap mark_of c.in-19794.is)) in
@@ -122,7 +122,7 @@ returns-in-17473 c =
     let copy : Copy = copy_by c.args.area.now c.args.base c.args.firsts.now c.args.starts.now c.args.targets.now in
     let scene : Scene = scene_by c.args.code.now c.args.cells.now c.args.activations c.args.live c.args.at in
     let q = came (doing copy scene) c.came_to-in-17473.ensures
-    (acted copy scene pair (mark-is copy scene c.field-mark.ensures.0 (ap mark_of c.in-17473.is)) (pair-acts copy scene c.do_add_pair.ensures)) in
+    (acted copy scene pair (mark-is copy scene c.field-mark.ensures.0 (ap mark_of c.in-17473.is)) (pair-acts copy scene c.do_change.ensures)) in
     record { value = q.0; cells_after = q.1 }
 
 pub returns-in-19794 : goal.returns-in-19794
@@ -131,7 +131,7 @@ returns-in-19794 c =
     let copy : Copy = copy_by c.args.area.now c.args.base c.args.firsts.now c.args.starts.now c.args.targets.now in
     let scene : Scene = scene_by c.args.code.now c.args.cells.now c.args.activations c.args.live c.args.at in
     let q = came (doing copy scene) c.came_to-in-19794.ensures
-    (acted copy scene unpair (mark-is copy scene c.field-mark.ensures.0 (ap mark_of c.in-19794.is)) (unpair-acts copy scene c.do_remove_pair.ensures)) in
+    (acted copy scene unpair (mark-is copy scene c.field-mark.ensures.0 (ap mark_of c.in-19794.is)) (unpair-acts copy scene c.do_change-in-19794.ensures)) in
     record { value = q.0; cells_after = q.1 }
 
 pub returns-in_default : goal.returns-in_default

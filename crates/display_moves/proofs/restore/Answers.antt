@@ -1,5 +1,5 @@
 -- What is known where a level is left, and one level more put right.
-use Rattle.std.proofs.Common.{ℕ, suc, ◌<◌, List, refl, sym, ◌∙◌, subst, arith, rules, length-set}
+use Rattle.std.proofs.Common.{ℕ, suc, ◌*◌, ◌<◌, List, refl, sym, ◌∙◌, subst, arith, rules, length-set}
 use Rattle.frames.specs.Numbered.{numbered-high}
 use Rattle.arrays.specs.Displays.{Restoring, restoring-starts, restoring-bound, restoring_step, restoring-through, restoring-meets}
 use Rattle.display_moves.specs.Running.{Restorable}
@@ -32,14 +32,20 @@ returns-then-from_u16-a-clause-shows_from c =
     (omega (arith, w.sure-is, c.if-l-sure.true))
     (sym c.from_u16.ensures.0 ∙ c.if-from_u16-a.true)
 
-pub overflow_mul-a-in-loop-l : goal.overflow_mul-a-in-loop-l
-overflow_mul-a-in-loop-l c =
+pub overflow_mul-display : goal.overflow_mul-display
+overflow_mul-display c =
     let l = c.loop-l in
     let h : (l.l < 256) × (l.a < 256) = within c.requires l.display l.a l.l (l.invariant.right c.requires) c.loop-l-test.true in
     search rules
 
-pub narrow-requires : goal.narrow-requires
-narrow-requires c =
+pub overflow_cast-display : goal.overflow_cast-display
+overflow_cast-display c =
+    let l = c.loop-l in
+    let h : (l.l < 256) × (l.a < 256) = within c.requires l.display l.a l.l (l.invariant.right c.requires) c.loop-l-test.true in
+    search rules
+
+pub offset_bounds-links-a : goal.offset_bounds-links-a
+offset_bounds-links-a c =
     let l = c.loop-l in
     let h : (l.l < 256) × (l.a < 256) = within c.requires l.display l.a l.l (l.invariant.right c.requires) c.loop-l-test.true in
     search rules
@@ -55,10 +61,10 @@ loop-l-preserved c =
     let l = c.loop-l in
     let h : (l.l < 256) × (l.a < 256) = within c.requires l.display l.a l.l (l.invariant.right c.requires) c.loop-l-test.true in
     record {
-      right = λ w. rw (c.narrow.ensures, c.from_u16-a.ensures.0)
+      right = λ w. rw c.from_u16-a.ensures.0
           (restoring_step w.frames w.down w.old (suc c.args.activation) l.display l.a l.l (l.invariant.right w) c.args.links.now
           w.links-are c.loop-l-test.true (omega (arith, l.invariant.long, w.display-long)));
-      long = length-set l.display l.l c.narrow.result ∙ l.invariant.long;
+      long = length-set l.display l.l (32 * l.a) ∙ l.invariant.long;
     }
 
 pub returns-clause-shows_from : goal.returns-clause-shows_from

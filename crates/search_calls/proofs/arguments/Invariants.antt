@@ -5,6 +5,3 @@ use Rattle.search_calls.proofs.arguments.Given as goal
 
 abbrev pub invariant-loop-i : goal.invariant-loop-i
 invariant-loop-i l = Handing l.code l.numbers l.blocks l.froms l.live l.fn.cells l.fn.passers l.at l.count l.cells l.passers l.i
-
-abbrev pub decreases-loop-i : goal.decreases-loop-i
-decreases-loop-i l = l.count - l.i

@@ -1,5 +1,5 @@
 -- The records are written, and the cells cleared between where the block's head says.
-use Rattle.std.proofs.Common.{◌≡◌, ℕ, ◌+◌, List, ℤ, get_or, set, ap, ◌∙◌, subst}
+use Rattle.std.proofs.Common.{◌≡◌, ℕ, ◌+◌, List, ℤ, get_or, refl, ap, ◌∙◌, subst}
 use Rattle.resolved.specs.Layout.{formals_in, names_in, end_in, first_in, cell_from}
 use Rattle.run_moves.specs.Effects.{Cleared}
 use Rattle.run_state.specs.Limits.{goes_to}
@@ -19,9 +19,9 @@ returns c =
     let first : c.first_of.result ≡ first_in (get_or s.code.now (s.body + 1) 0) = c.first_of.ensures ∙ ap first_in b in
     let end : c.end_of.result ≡ end_in (get_or s.code.now (s.body + 1) 0) = c.end_of.ensures.0 ∙ ap end_in b in
     record {
-      blocks-are = ap (set s.blocks.now live) c.narrow-2.ensures;
-      nexts-are = ap (set s.nexts.now s.here.live) c.narrow.ensures;
-      froms-are = ap (set s.froms.now live) c.narrow-3.ensures;
+      blocks-are = refl;
+      nexts-are = refl;
+      froms-are = refl;
       cleared = cleared-between from to c.clear.ensures;
       registers-are = λ i. goes_to s.here live (first i) (end i) s.here.pairs;
     }

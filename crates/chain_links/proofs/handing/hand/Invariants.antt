@@ -10,6 +10,3 @@ invariant-loop-field l = record {
   kept : SameBelow l.fn.cells l.here l.cells;
   same : Handed l.code l.fn.cells l.records l.here l.last (set_from l.code l.fn.cells l.records l.here l.last l.cells (l.field - 3));
 }
-
-abbrev pub decreases-loop-field : goal.decreases-loop-field
-decreases-loop-field l = l.last - l.field

@@ -13,6 +13,3 @@ invariant-loop-k l = record {
   shows : (fs : List Frame) → Held l.code l.cells (blocks_in l.records) (nexts_in l.records) (links_in l.records) fs → length fs ≡ l.live
       → (l.sheet ≡ written (frame_sheet (take l.k fs)) l.fn.sheet) × (l.at ≡ length (frame_sheet (take l.k fs)));
 }
-
-abbrev pub decreases-loop-k : goal.decreases-loop-k
-decreases-loop-k l = l.live - l.k

@@ -1,6 +1,5 @@
 -- The run is over, or the activation below goes on, whose record is read.
-use Rattle.std.proofs.Common.{◌≡◌, ◌-◌, sym, ap, subst, ◌∙◌, arith}
-use Rattle.chain_records.specs.Records.{at}
+use Rattle.std.proofs.Common.{◌-◌, sym, ap, subst, arith}
 use Rattle.chain_records.specs.declared.Activation.{Activation}
 use Rattle.run_state.specs.declared.Turn.{Turn}
 use Rattle.run_state.specs.declared.Turn.TheVariants.{Went}
@@ -14,12 +13,9 @@ pub left-requires : goal.left-requires
 left-requires c =
     let live = c.args.here.live in
     let h = block-fits c.requires.running (live - 1) (omega arith) in
-    let own : c.read-activation.result ≡ at c.args.records.now (live - 1) = c.read-activation.ensures ∙ ap (at c.args.records.now) c.below.ensures in
-    (omega (arith, h, ap (λ (b : Activation). b.block) own), above_zero live c.if-here-eq0.false)
+    (omega (arith, h, ap (λ (b : Activation). b.block) c.read-activation.ensures), above_zero live c.if-here-eq0.false)
 
 pub returns : goal.returns
 returns c =
-    let live = c.args.here.live in
-    let own : c.read-activation.result ≡ at c.args.records.now (live - 1) = c.read-activation.ensures ∙ ap (at c.args.records.now) c.below.ensures in
-    λ v. subst (λ (t : Turn). Turned v.running t v.cells c.args.records.now v.table) (sym (c.went.ensures ∙ ap Went c.left.ensures))
-    (leaves-on v.running v.ended c.if-here-eq0.false c.read-activation.result own)
+    λ v. subst (λ (t : Turn). Turned v.running t v.cells c.args.records.now v.table) (sym (ap Went c.left.ensures))
+    (leaves-on v.running v.ended c.if-here-eq0.false c.read-activation.result c.read-activation.ensures)

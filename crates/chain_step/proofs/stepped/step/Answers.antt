@@ -1,5 +1,5 @@
 -- What the statement has come to is its move's; and what a move comes to is a step (`Turns`).
-use Rattle.std.proofs.Common.{◌≡◌, ◌≤◌, List, ℤ, Bool, false, sym, ap, subst, ◌∙◌, arith}
+use Rattle.std.proofs.Common.{◌≡◌, ℕ, ◌≤◌, List, ℤ, Bool, true, false, refl, sym, ap, subst, ◌∙◌, arith}
 use Rattle.chain_records.specs.Records.{at}
 use Rattle.chain_records.specs.declared.Activation.{Activation}
 use Rattle.run_moves.specs.Acting.{Happened}
@@ -12,10 +12,12 @@ use Rattle.chain_links.specs.declared.Entry.{Entry}
 use Rattle.chain_links.specs.Running.{EnterReady, Succeeds, now_by}
 use Rattle.chain_links.specs.Moving.{room-there, block-fits}
 use Rattle.chain_step.specs.declared.turn.Moved.{Moved}
+use Rattle.chain_step.specs.declared.turn.Moved.TheVariants.{Resume}
 use Rattle.chain_step.specs.Acted.{Does}
 use Rattle.chain_step.specs.Moves.{stays_in, is_asked, is_entry, entry_of, home_at, place_at}
-use Rattle.chain_step.specs.Moved.{moved_by, is_done, turn_of, is_ask, is_enter, entry_in, home_in, place_in}
+use Rattle.chain_step.specs.Moved.{is_done, turn_of, is_ask, is_enter, entry_in, home_in, place_in}
 use Rattle.chain_step.specs.Moved as by_move
+use Rattle.run_statements.specs.Answers.{answered-lists}
 use Rattle.chain_step.specs.Turning.{Turned}
 use Rattle.chain_step.specs.Turns as turned
 use Rattle.chain_step.proofs.stepped.step.Goals as goal
@@ -49,100 +51,111 @@ returns-then-here-clause-keeps_list c = turned.left-keeps c.requires.running c.i
 
 -- The innermost activation stays so
 
-pub returns-then-is_done-clause-turned : goal.returns-then-is_done-clause-turned
-returns-then-is_done-clause-turned c =
-    let d = c.acted-done.ensures in
-    let cells' = c.acted-done.new.cells in
-    let z = stays-is d c.is_done.ensures c.if-is_done.true in
-    λ w. subst (λ (t : Turn). Turned w t cells' c.args.records.now c.args.table.now)
-    (sym (c.turn_of.ensures ∙ ap turn_of d.is ∙ by_move.turn_is c.args.here d.move z))
-    (turned.stays w c.if-here.false d.move cells' d.did z)
+pub returns-in-Went-clause-turned : goal.returns-in-Went-clause-turned
+returns-in-Went-clause-turned c =
+    let d = c.acted.ensures in
+    let z = stays-is d refl (ap is_done c.in-Went.is) in
+    λ w. subst (λ (t : Turn). Turned w t c.acted.new.cells c.args.records.now c.args.table.now)
+    (sym (sym (ap turn_of c.in-Went.is) ∙ ap turn_of d.is ∙ by_move.turn_is c.args.here d.move z))
+    (turned.stays w c.if-here.false d.move c.acted.new.cells d.did z)
+
+pub returns-in-Stopped-clause-turned : goal.returns-in-Stopped-clause-turned
+returns-in-Stopped-clause-turned c =
+    let d = c.acted.ensures in
+    let z = stays-is d refl (ap is_done c.in-Stopped.is) in
+    λ w. subst (λ (t : Turn). Turned w t c.acted.new.cells c.args.records.now c.args.table.now)
+    (sym (sym (ap turn_of c.in-Stopped.is) ∙ ap turn_of d.is ∙ by_move.turn_is c.args.here d.move z))
+    (turned.stays w c.if-here.false d.move c.acted.new.cells d.did z)
 
 -- The table is asked
 
-pub answered-requires-clause-group_bound : goal.answered-requires-clause-group_bound
-answered-requires-clause-group_bound c =
-    let d = c.acted-done.ensures in
-    λ k e. turned.cells-asked c.requires.running c.if-here.false d.move c.acted-done.new.cells d.did k
-    (by_move.asked-back c.args.here d.move k (sym d.is ∙ e))
+pub asked-requires-clause-group_bound : goal.asked-requires-clause-group_bound
+asked-requires-clause-group_bound c =
+    let d = c.acted.ensures in
+    let k = c.in-Table.asking in
+    turned.cells-asked c.requires.running c.if-here.false d.move c.acted.new.cells d.did k (by_move.asked-back c.args.here d.move k (sym d.is ∙ c.in-Table.is))
 
-pub returns-then-asks-clause-turned : goal.returns-then-asks-clause-turned
-returns-then-asks-clause-turned c =
-    let d = c.acted-done.ensures in
-    let q = by_move.asked_in d.move (asks-is d c.asks.ensures c.if-asks.true) in
-    λ w. turned.answered-on w c.if-here.false d.move c.acted-done.new.cells d.did q.0 q.1 c.answered.result c.answered.new.cells c.answered.new.table
-    (c.answered.ensures.value q.0 (d.is ∙ ap (moved_by c.args.here) q.1))
+pub returns-in-Table-clause-turned : goal.returns-in-Table-clause-turned
+returns-in-Table-clause-turned c =
+    let d = c.acted.ensures in
+    let k = c.in-Table.asking in
+    let a = c.asked.ensures in
+    λ w. turned.answered-on w c.if-here.false d.move c.acted.new.cells d.did k (by_move.asked-back c.args.here d.move k (sym d.is ∙ c.in-Table.is))
+    c.after.result c.asked.new.cells c.asked.new.table (c.asked.result, c.after.ensures, (a.value, (a.cells_after, a.table_after)))
 
-pub returns-then-asks-clause-keeps_list : goal.returns-then-asks-clause-keeps_list
-returns-then-asks-clause-keeps_list c =
-    let d = c.acted-done.ensures in
-    let q = by_move.asked_in d.move (asks-is d c.asks.ensures c.if-asks.true) in
-    c.answered.ensures.keeps_list q.0 (d.is ∙ ap (moved_by c.args.here) q.1)
+pub returns-in-Table-clause-keeps_list : goal.returns-in-Table-clause-keeps_list
+returns-in-Table-clause-keeps_list c = answered-lists c.args.here _ c.asked.result c.after.ensures c.asked.ensures.keeps_list
 
 -- A block is entered
 
 pub enter-requires : goal.enter-requires
 enter-requires c =
-    let d = c.acted-done.ensures in
-    let cells' = c.acted-done.new.cells in
-    subst (EnterReady c.args.code.now cells' c.args.records.now c.args.here) (sym (entry-is d c.entry_of.ensures))
-    (turned.enter-ready c.requires.running c.if-here.false d.move cells' d.did (enters-is d c.enters.ensures c.if-enters.true))
+    let d = c.acted.ensures in
+    let cells' = c.acted.new.cells in
+    subst (EnterReady c.args.code.now cells' c.args.records.now c.args.here) (sym (entry-is d (sym (ap entry_in c.in-Enter.is))))
+    (turned.enter-ready c.requires.running c.if-here.false d.move cells' d.did (enters-is d refl (ap is_enter c.in-Enter.is)))
 
-pub returns-then-enters-clause-turned : goal.returns-then-enters-clause-turned
-returns-then-enters-clause-turned c =
-    let d = c.acted-done.ensures in
-    let cells' = c.acted-done.new.cells in
+pub returns-in-Enter : goal.returns-in-Enter
+returns-in-Enter c =
+    let d = c.acted.ensures in
+    let cells' = c.acted.new.cells in
     let n = c.enter.new in
+    let z = enters-is d refl (ap is_enter c.in-Enter.is) in
     let s = subst (λ (x : Entry). (v : EnterReady c.args.code.now cells' c.args.records.now c.args.here x)
-    → Succeeds v.running n.cells n.records v.table c.enter.result) (entry-is d c.entry_of.ensures) c.enter.ensures in
-    λ w. subst (λ (t : Turn). Turned w t n.cells n.records c.args.table.now) (sym c.went.ensures)
-    (turned.entered_on w c.if-here.false d.move cells' d.did (enters-is d c.enters.ensures c.if-enters.true) n.cells n.records c.enter.result s)
-
-pub returns-then-enters-clause-keeps_list : goal.returns-then-enters-clause-keeps_list
-returns-then-enters-clause-keeps_list c =
-    let d = c.acted-done.ensures in
-    let cells' = c.acted-done.new.cells in
-    let n = c.enter.new in
-    let s = subst (λ (x : Entry). (v : EnterReady c.args.code.now cells' c.args.records.now c.args.here x)
-    → Succeeds v.running n.cells n.records v.table c.enter.result) (entry-is d c.entry_of.ensures) c.enter.ensures in
-    subst (λ (t : Turn). KeepsList c.args.limit c.args.table.now c.args.here.pairs c.args.groups.now c.args.table.now (pairs_after c.args.here t) c.args.groups.now)
-    (sym c.went.ensures)
-    (turned.entered-keeps c.requires.running c.if-here.false d.move cells' d.did (enters-is d c.enters.ensures c.if-enters.true) n.cells n.records
-    c.enter.result s c.args.groups.now)
+    → Succeeds v.running n.cells n.records v.table c.enter.result) (entry-is d (sym (ap entry_in c.in-Enter.is))) c.enter.ensures in
+    record {
+      turned = λ w. turned.entered_on w c.if-here.false d.move cells' d.did z n.cells n.records c.enter.result s;
+      keeps_list = turned.entered-keeps c.requires.running c.if-here.false d.move cells' d.did z n.cells n.records c.enter.result s c.args.groups.now;
+    }
 
 -- Another activation goes on
 
+module _ {done : Happened} {cells cells' : List ℤ} {here : Registers} {moved : Moved} (d : Does done cells here moved cells')
+    {home place : ℕ} (e : moved ≡ Resume home place) where
+  leaves-it : stays_in here d.move ≡ false
+  leaves-it = stays-is d refl (ap is_done e)
+
+  asks-none : is_asked d.move ≡ false
+  asks-none = asks-is d refl (ap is_ask e)
+
+  enters-none : is_entry d.move ≡ false
+  enters-none = enters-is d refl (ap is_enter e)
+
+  home-there : home ≡ home_at d.move
+  home-there = sym (ap home_in e) ∙ home-is d leaves-it
+
+  place-there : place ≡ place_at d.move
+  place-there = sym (ap place_in e) ∙ place-is d leaves-it
+
 pub read-activation-requires : goal.read-activation-requires
 read-activation-requires c =
-    let d = c.acted-done.ensures in
-    let z = stays-is d c.is_done.ensures c.if-is_done.false in
-    let below : c.home_of.result ≤ c.args.here.live = omega (
+    let d = c.acted.ensures in
+    let e = c.in-Resume.is in
+    let below : c.in-Resume.home ≤ c.args.here.live = omega (
       arith,
-      c.home_of.ensures ∙ home-is d z,
-      turned.home_below c.requires.running c.if-here.false d.move c.acted-done.new.cells d.did z (asks-is d c.asks.ensures c.if-asks.false)
-          (enters-is d c.enters.ensures c.if-enters.false),
+      home-there d e,
+      turned.home_below c.requires.running c.if-here.false d.move c.acted.new.cells d.did (leaves-it d e) (asks-none d e) (enters-none d e),
     ) in
-    (room-there c.requires.running c.home_of.result below).there
+    (room-there c.requires.running c.in-Resume.home below).there
 
-pub resumed-requires : goal.resumed-requires
-resumed-requires c =
-    let d = c.acted-done.ensures in
-    let z = stays-is d c.is_done.ensures c.if-is_done.false in
-    let below : c.home_of.result ≤ c.args.here.live = omega (
+pub innermost-requires : goal.innermost-requires
+innermost-requires c =
+    let d = c.acted.ensures in
+    let e = c.in-Resume.is in
+    let below : c.in-Resume.home ≤ c.args.here.live = omega (
       arith,
-      c.home_of.ensures ∙ home-is d z,
-      turned.home_below c.requires.running c.if-here.false d.move c.acted-done.new.cells d.did z (asks-is d c.asks.ensures c.if-asks.false)
-          (enters-is d c.enters.ensures c.if-enters.false),
+      home-there d e,
+      turned.home_below c.requires.running c.if-here.false d.move c.acted.new.cells d.did (leaves-it d e) (asks-none d e) (enters-none d e),
     ) in
-    let h = block-fits c.requires.running c.home_of.result below in
+    let h = block-fits c.requires.running c.in-Resume.home below in
     omega (arith, h, ap (λ (b : Activation). b.block) c.read-activation.ensures)
 
-pub returns-clause-turned : goal.returns-clause-turned
-returns-clause-turned c =
-    let d = c.acted-done.ensures in
+pub returns-in-Resume-clause-turned : goal.returns-in-Resume-clause-turned
+returns-in-Resume-clause-turned c =
+    let d = c.acted.ensures in
+    let e = c.in-Resume.is in
     let a = c.read-activation in
-    let z = stays-is d c.is_done.ensures c.if-is_done.false in
-    λ w. subst (λ (t : Turn). Turned w t c.acted-done.new.cells c.args.records.now c.args.table.now)
-    (sym (c.resumed.ensures ∙ (λ i. Went (now_by c.args.code.now a.result.block (home-is d z i) (place-is d z i) c.args.here.pairs))))
-    (turned.resumed-on w c.if-here.false d.move c.acted-done.new.cells d.did z (asks-is d c.asks.ensures c.if-asks.false)
-    (enters-is d c.enters.ensures c.if-enters.false) a.result (a.ensures ∙ ap (at c.args.records.now) (c.home_of.ensures ∙ home-is d z)))
+    λ w. subst (λ (t : Turn). Turned w t c.acted.new.cells c.args.records.now c.args.table.now)
+    (sym (ap Went c.innermost.ensures ∙ (λ i. Went (now_by c.args.code.now a.result.block (home-there d e i) (place-there d e i) c.args.here.pairs))))
+    (turned.resumed-on w c.if-here.false d.move c.acted.new.cells d.did (leaves-it d e) (asks-none d e) (enters-none d e) a.result
+    (a.ensures ∙ ap (at c.args.records.now) (home-there d e)))

@@ -9,6 +9,3 @@ invariant-loop-i l =
     (l.i ≤ l.count) ×
     (set_all l.cells (l.to + l.i) (handed_from l.area l.firsts l.starts l.targets l.live (l.place + l.i) (l.count - l.i))
     ≡ set_all l.initial.cells l.to (handed_from l.area l.firsts l.starts l.targets l.live l.place l.count))
-
-abbrev pub decreases-loop-i : goal.decreases-loop-i
-decreases-loop-i l = l.count - l.i

@@ -3,15 +3,17 @@ use lib.IntN.{ℤ}
 use Rattle.language.specs.Table.{removed}
 use Rattle.run_moves.specs.Acting.{answer}
 use Rattle.table_pairs.specs.Outcomes.{table_of}
-use Rattle.run_statements.specs.Words.{read-value}
 use Rattle.run_statements.specs.Answers.{changed-by}
-use mathlib.Core.Path.{refl}
+use mir.Facts.{to_z-of_z}
+use Rattle.std.proofs.Common.{rules, pos, get_or, w32, FitsSigned}
 use Rattle.run_statements.proofs.membership.remove.Goals as goal
 
 pub returns : goal.returns
 unfolding answer
 returns c =
     let ws = c.args.cells.now in
-    let d = changed-by (λ (a b : ℤ). removed a b (table_of c.args.table.now c.args.pairs)) c.args.table.now (read-value ws c.of-1.given refl) (read-value ws c.who-1.given refl)
+    let f : FitsSigned w32 (get_or ws c.args.group (pos 0)) = search rules in
+    let g : FitsSigned w32 (get_or ws c.args.member (pos 0)) = search rules in
+    let d = changed-by (λ (a b : ℤ). removed a b (table_of c.args.table.now c.args.pairs)) c.args.table.now (to_z-of_z f) (to_z-of_z g)
     c.remove_pair.ensures.value c.remove_pair.ensures.table_after in
     record { value = d.0; table_after = d.1; by_index_2 = c.remove_pair.ensures.by_index }
