@@ -16,6 +16,7 @@ use Rattle.language.specs.Call.{Engine, Lent, Fed, Reply, limits_of, limits_fit,
 use Rattle.language.specs.declared.Refusal.{Refusal}
 use Rattle.language.specs.declared.End.{End}
 use Rattle.language.specs.declared.Answer.{Answer}
+use Rattle.language.specs.declared.Fault.{Fault}
 use Rattle.language.specs.Faults.{fault, Verdict}
 use Rattle.laws.specs.Tests.{both}
 use Rattle.grammar.specs.Rules.{Bytes, Keeps}
@@ -37,8 +38,9 @@ verdict-refused : (k : Checked) (c : Refusal) (o : ℕ) → verdict_of k ≡ Err
 unfolding verdict_of
 verdict-refused (accepted t) c o q = let z : ◌≡◌ {A = ℕ} 0 1 = cc in absurd (omega arith)
 verdict-refused (refused d p) c o q =
-    let x : d ≡ c = cc in
-    let y : p ≡ o = cc in
+    let f : fault d p ≡ fault c o = cc in
+    let x : d ≡ c = ap (λ (z : Fault). z.cause) f in
+    let y : p ≡ o = ap (λ (z : Fault). z.offset) f in
     λ i. refused (x i) (y i)
 
 verdict-fit : (k : Checked) → verdict_of k ≡ Ok tt → (t : Block) × (k ≡ accepted t)

@@ -9,19 +9,19 @@ pub ran-requires : goal.ran-requires
 ran-requires c =
     let s = c.args in
     admitted-call (copying (length s.area.now)) (fed_of s.numbers s.script.now s.table.now s.groups.now s.sheet.now) c.admit.result (c.admit.ensures false)
-    c.in-Fit.is
+    c.in-Ok.is
 
-pub returns-in-Refused : goal.returns-in-Refused
-returns-in-Refused c =
+pub returns-in-Err : goal.returns-in-Err
+returns-in-Err c =
     let s = c.args in
     let e = copying (length s.area.now) in
     let f = fed_of s.numbers s.script.now s.table.now s.groups.now s.sheet.now in
-    leaving-all e f (refused-call e f c.admit.result (c.admit.ensures false) c.in-Refused.cause c.in-Refused.offset c.in-Refused.is c.refused_answer.ensures)
+    leaving-all e f (refused-call e f c.admit.result (c.admit.ensures false) c.in-Err.fault.cause c.in-Err.fault.offset c.in-Err.is c.refused_answer.ensures)
     s.area.now
 
-pub returns-in-Fit : goal.returns-in-Fit
-returns-in-Fit c =
+pub returns-in-Ok : goal.returns-in-Ok
+returns-in-Ok c =
     let s = c.args in
     let e = copying (length s.area.now) in
     let f = fed_of s.numbers s.script.now s.table.now s.groups.now s.sheet.now in
-    leaving-length e f c.ran.ensures (admitted-call e f c.admit.result (c.admit.ensures false) c.in-Fit.is).1 c.ran.auto.area
+    leaving-length e f c.ran.ensures (admitted-call e f c.admit.result (c.admit.ensures false) c.in-Ok.is).1 c.ran.auto.area

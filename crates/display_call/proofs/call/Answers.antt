@@ -8,10 +8,10 @@ use Rattle.display_call.proofs.call.Goals as goal
 pub ran-requires : goal.ran-requires
 ran-requires c =
     let s = c.args in
-    admitted-call display (fed_of s.numbers s.script.now s.table.now s.groups.now s.sheet.now) c.admit.result (c.admit.ensures false) c.in-Fit.is
+    admitted-call display (fed_of s.numbers s.script.now s.table.now s.groups.now s.sheet.now) c.admit.result (c.admit.ensures false) c.in-Ok.is
 
-pub returns-in-Refused : goal.returns-in-Refused
-returns-in-Refused c =
+pub returns-in-Err : goal.returns-in-Err
+returns-in-Err c =
     let s = c.args in
-    refused-call display (fed_of s.numbers s.script.now s.table.now s.groups.now s.sheet.now) c.admit.result (c.admit.ensures false) c.in-Refused.cause
-    c.in-Refused.offset c.in-Refused.is c.refused_answer.ensures
+    refused-call display (fed_of s.numbers s.script.now s.table.now s.groups.now s.sheet.now) c.admit.result (c.admit.ensures false) c.in-Err.fault.cause
+    c.in-Err.fault.offset c.in-Err.is c.refused_answer.ensures
