@@ -6,6 +6,7 @@ ghost use Rattle.resolved.specs.Resolved.{packed, position_in, formal_in, kind_i
 ghost use Rattle.resolved.specs.Layout.{operation_in, formals_in, names_in, end_in, first_in, head_from, bounds_from, cell_from, activation_in, held_from, cell_in, lead_in};
 
 // The operations of statements that have no formal among their names, then those of statements that have one. AD, RM and QY have one each.
+// They and the kinds of names stay numbers: they are bits of the resolved script's words, which the engines' loops compare as they are read.
 pub const CONSTANT: usize = 0;
 
 pub const ADD: usize = 1;

@@ -1,4 +1,5 @@
-// Numbers as those of a wider type. A call asks nothing of its caller, where a cast would ask for a bound on what is read.
+// Numbers as those of a wider type. A call asks nothing of its caller, where a cast would ask for a bound on what is read. `usize::from`
+// serves a u8 and a u16 but no u32; a trait over the three types would be longer than their three casts.
 #![tactic(auto)]
 
 ghost use Rattle.std.specs.Prelude.{◌≡◌, ◌<◌, ◌^◌};
