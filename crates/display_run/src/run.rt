@@ -72,7 +72,7 @@ pub fn run(
     ensures keeps_list { KeepsList limit table.old start.pairs groups.old table.new result.pairs groups.new }
 {
     let mut here = start;
-    // Counted down, and not by `for`: each step passes here, and the loop's shape is the one that was measured.
+    // Counted down: by `for` over the steps done a step of the display engine takes 44 instructions in place of 35.
     let mut left = allowance;
     while 0 < left {
         match step(

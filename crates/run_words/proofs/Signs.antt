@@ -1,9 +1,9 @@
--- Signed words: what is read back of a word's bits, how large sums of two words are, and which values fit a word.
+-- Signed words: what is read back of a word's bits, and how large sums of two words are.
 use Prim.Native.Nat.{ℕ, zero, suc, ◌-◌, ◌<◌, ◌≤◌}
 use mathlib.Core.Path.{◌≡◌, refl, sym, subst, ap, ◌∙◌}
 use mathlib.Core.Bool.{Bool, true, false, cond}
 use native.Mathlib.Omega.{arith}
-use borrow.Author.Tests.{ltb-true, ltb-false, lt-ltb, le-ltb}
+use borrow.Author.Tests.{lt-ltb, le-ltb}
 use lib.Dec.{T, ltb}
 use lib.IntN.{ℤ, pos, negsuc, neg_ℤ, nat_abs, ◌+ℤ◌, ◌-ℤ◌}
 use lib.Signed.{mag, lt_z, non_neg}
@@ -95,19 +95,7 @@ unfolding encoding.signed
 signed_high b low h =
     to_z-of_z (high_fits b low h) ∙ to_z-of_z (high-wide b low h) ∙ less-by-all b low h ∙ rw (le-ltb b 2147483648 low, encoding.signed)
 
--- Which values fit
-
-pub too-low : (z : ℤ) → lt_z z (negsuc 2147483647) ≡ true → ltb (mag z) 2147483648 ≡ false
-too-low (pos n) e = let z : ◌≡◌ {A = ℕ} 0 1 = cc in absurd (omega arith)
-too-low (negsuc n) e = le-ltb n 2147483648 (omega (arith, ltb-true 2147483647 n e))
-
-pub too-high : (z : ℤ) → lt_z (pos 2147483647) z ≡ true → ltb (mag z) 2147483648 ≡ false
-too-high (pos n) e = le-ltb n 2147483648 (omega (arith, ltb-true 2147483647 n e))
-too-high (negsuc n) e = let z : ◌≡◌ {A = ℕ} 0 1 = cc in absurd (omega arith)
-
-pub between : (z : ℤ) → lt_z z (negsuc 2147483647) ≡ false → lt_z (pos 2147483647) z ≡ false → ltb (mag z) 2147483648 ≡ true
-between (pos n) low high = lt-ltb n 2147483648 (omega (arith, ltb-false 2147483647 n high))
-between (negsuc n) low high = lt-ltb n 2147483648 (omega (arith, ltb-false 2147483647 n low))
+-- A word that is not negative
 
 pub not_negative : (z : ℤ) → mag z < 2147483648 → lt_z z (pos 0) ≡ false → T (non_neg z) × Fits w64 (nat_abs z)
 not_negative (pos n) h e = (tt, record { fits = omega (arith, h) })

@@ -54,16 +54,18 @@ pub fn store(cells: &mut [i32; 8224], cell: usize, value: i32)
     cells[cell] = value;
 }
 
-// Where it fits a word. By these two tests and not by `i32::try_from`, which goes by sign and magnitude: sums are what is done most.
+// Where it fits a word.
 fn keep(cells: &mut [i32; 8224], cell: usize, value: i64) -> Result<(), Stop>
     requires { cell < 8192 }
     ensures { (result ≡ effect_of value) × (cells.new ≡ cells_of cells.old cell value) }
 {
-    if value < i64::from(i32::MIN) || i64::from(i32::MAX) < value {
-        return Err(Stop::ResultTooLarge);
+    match i32::try_from(value) {
+        Ok(word) => {
+            cells[cell] = word;
+            Ok(())
+        }
+        Err(_) => Err(Stop::ResultTooLarge),
     }
-    cells[cell] = value as i32;
-    Ok(())
 }
 
 // AR: the cells of target, left and right.

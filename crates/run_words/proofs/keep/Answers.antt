@@ -1,26 +1,27 @@
 -- a value that fits is stored as it is
-use Rattle.std.proofs.Common.{◌≡◌, false, ltb}
+use Rattle.std.proofs.Common.{◌≡◌, Bool, true, false, ltb, refl, ℤ, w32, FitsSigned}
 use Rattle.std.specs.Int.Signed.{mag}
 use mir.Facts.{to_z-of_z}
-use borrow.Author.Tests.{ltb-true}
-use Rattle.run_words.proofs.Signs.{read_back, too-low, too-high, between}
+use borrow.Author.Tests.{lt-ltb, ltb-true}
+use Rattle.run_words.proofs.Signs.{read_back}
 use Rattle.run_words.proofs.Kept.{effect-fits, effect-past, cells-fits, cells-past}
 use Rattle.run_words.proofs.keep.Goals as goal
-use Rattle.run_words.proofs.keep.Goals.{then-value-from-via-then-value-from, then-value-from-via-else-value-from+then-from-value}
 
-pub returns : goal.returns
-returns c =
-    let low = rw (to_z-of_z c.ranges.value, c.from.ensures) at c.if-value-from.false in
-    let high = rw (to_z-of_z c.ranges.value, c.from-else-value-from.ensures) at c.if-from-value.false in
-    let e = between c.args.value low high in
-    (effect-fits c.args.value e, rw (to_z-of_z c.ranges.value, read_back c.args.value (ltb-true _ _ e)) (cells-fits _ _ _ e))
+past : (z : ℤ) → (FitsSigned w32 z → ⊥) → ltb (mag z) 2147483648 ≡ false
+past z not = go (ltb (mag z) 2147483648) refl
+  where
+    go : (t : Bool) → ltb (mag z) 2147483648 ≡ t → t ≡ false
+    go true e = absurd (not (record { sfits = ltb-true (mag z) 2147483648 e }))
+    go false e = refl
 
-pub returns-then-value-from : goal.returns-then-value-from
-returns-then-value-from c =
-    let e : ltb (mag c.args.value) 2147483648 ≡ false =
-    elim c.then-value-from.branch [
-      | then-value-from-via-then-value-from w ↦ too-low c.args.value (rw (to_z-of_z c.ranges.value, c.from.ensures) at w.if-value-from.true)
-      | then-value-from-via-else-value-from+then-from-value w ↦
-          too-high c.args.value (rw (to_z-of_z c.ranges.value, w.from-else-value-from.ensures) at w.if-from-value.true)
-    ] in
+pub returns-in-Ok : goal.returns-in-Ok
+returns-in-Ok c =
+    let h = rw (to_z-of_z c.ranges.value) at c.in-Ok.ensures in
+    let e = lt-ltb (mag c.args.value) 2147483648 h.0.sfits in
+    (effect-fits c.args.value e, rw (h.1, read_back c.args.value h.0.sfits) (cells-fits _ _ _ e))
+
+pub returns-in-Err : goal.returns-in-Err
+returns-in-Err c =
+    let h = rw (to_z-of_z c.ranges.value) at c.in-Err.ensures in
+    let e = past c.args.value h in
     (effect-past c.args.value e, cells-past _ _ _ e)
