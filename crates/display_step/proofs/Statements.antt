@@ -22,20 +22,17 @@ use Rattle.run_moves.specs.declared.Move.TheVariants.{On, Table as Asks, Jump, E
 use Rattle.run_moves.specs.Effects.{effect_of, cells_of, same_kinds, handed_word}
 use Rattle.run_moves.specs.Acting.{Finding, Scene, scene_by, Happened, set_all, arguments_from, operation_of}
 use Rattle.run_moves.specs.Acting.{do_constant, do_arithmetic, do_goto, do_branch, do_call, arguments_agree, do_call_formal, do_change, do_query}
-use Rattle.resolved.specs.Resolved.{direct, formal_in, level_in, position_in, target_in}
+use Rattle.resolved.specs.Resolved.{direct, formal_in, position_in, target_in}
 use Rattle.arrays.specs.Found.{held_by, cell_by}
 use Rattle.resolved.specs.Layout.{activation_in, cell_in, lead_in, formals_in}
-use Rattle.run_statements.specs.Pieces.{only-cells, move_after, entered_by, FormalsBefore}
+use Rattle.run_statements.specs.Pieces.{only-cells, move_after, entered_by}
 use Rattle.run_statements.specs.Scenes.{Done}
-use Rattle.run_statements.specs.Words.{read_back, is_zero, not-zero, is-direct, is-formal, cell-direct, cell-formal, home-direct, target-direct, home-formal, target-formal, handed-is}
+use Rattle.run_statements.specs.Words.{read_back, is_zero, not-zero, is-direct, is-formal, cell-direct, cell-formal, home-direct, target-direct, home-formal, target-formal, held-is, handed-is}
 use Rattle.run_statements.specs.Doing.{direct-cell, constant-done, is-plus, is-minus, is-less, arithmetic-done, compare-done, goto-done, branch-not, branch-goes}
 use Rattle.run_statements.specs.Doing.{no_room_lem, entered, arguments-alike, arguments-end, arguments-next, kept-below, call-is, number-differs, number_same, call-refused, call-agreed, change-done, query-done}
 use Rattle.display_step.specs.Finding.{first_cell, own_cell, next_first, by_display, Reachable, Direct, ThroughFormal, TwoNames, Operands, ArgumentsReachable}
 
 -- Names
-
-pub level-shown : (display : List ℕ) (w : ℕ) {l r : ℕ} → l ≡ level_in w → r ≡ get_or display l 0 → r ≡ first_cell display w
-level-shown display w e p = p ∙ ap (λ (k : ℕ). get_or display k 0) e
 
 module _ (cells : List ℤ) (first w : ℕ) where
   pub own-found : {f c : ℕ} → f ≡ formal_in w → f ≡ 0 → c ≡ first + position_in w → c ≡ cell_by cells first w
@@ -44,14 +41,14 @@ module _ (cells : List ℤ) (first w : ℕ) where
   pub held_found : {f h c : ℕ} → f ≡ formal_in w → (f ≡ 0 → ⊥) → h ≡ held_by cells first w → c ≡ cell_in h → c ≡ cell_by cells first w
   held_found e d p q = q ∙ ap (λ (n : ℕ). cell_in n) p ∙ sym (cell-formal cells first w (is-formal w (λ z. d (e ∙ z))))
 
+module _ (cells : List ℤ) (display : List ℕ) (w : ℕ) where
+  -- what a formal's cell holds, as it was read
+  pub held-read : {own n : ℕ} → mag (get_or cells own (pos 0)) < 2147483648 → own ≡ own_cell display w → to_z w32 (of_z w32 (get_or cells own (pos 0))) ≡ pos n
+      → n ≡ held_by cells (first_cell display w) w
+  held-read small is read = sym (held-is cells (first_cell display w) w (rw (read_back _ small, is) at read))
+
 module _ {cells : List ℤ} {display : List ℕ} {w v : ℕ} (e : v ≡ w) where
   -- by a word as it was read
-  pub reach-as : Reachable cells display w → Reachable cells display v
-  reach-as r = subst (Reachable cells display) (sym e) r
-
-  pub formal-as : ThroughFormal cells display w → ThroughFormal cells display v
-  formal-as r = subst (ThroughFormal cells display) (sym e) r
-
   pub through : {f : ℕ} → f ≡ formal_in v → (f ≡ 0 → ⊥) → Reachable cells display w → ThroughFormal cells display w
   through p d r = record { reachable = r; is = sym (ap direct e) ∙ is-formal v (λ z. d (p ∙ z)) }
 
@@ -158,9 +155,6 @@ module _ (code : List ℕ) (cells : List ℤ) (display : List ℕ) (at : ℕ) wh
     pub none-entered : (home body : ℕ) → activations ≤ live + 1 → Done (entered_by F s home body) (Stop NoActivationLeft) cells
     none-entered home body h = no_room_lem F s h home body
 
-    pub arguments-as : {from count : ℕ} → count ≡ w 2 → ArgumentsReachable code display live from (w 2) → ArgumentsReachable code display live from count
-    arguments-as {from} e r = subst (ArgumentsReachable code display live from) (sym e) r
-
     pub body-entered :
         (home body : ℕ) {count : ℕ} {ws : List ℤ} → live + 1 < activations → count ≡ w 2 →
         ws ≡ set_all cells (next_first live) (arguments_from F (only-cells code cells (at + 3)) (at + 3) count) →
@@ -181,17 +175,8 @@ module _ (code : List ℕ) (cells : List ℤ) (display : List ℕ) (at : ℕ) wh
     -- the procedure is a formal's
     module _ {label h body : ℕ} (read : label ≡ w 1) (is : h ≡ held_by cells (first_cell display label) label) (d : ThroughFormal cells display (w 1))
         (leads : body ≡ lead_in h) where
-      abbrev Before : Type 0
-      Before = FormalsBefore code (lead_in (held_by cells first (w 1)))
-
       body_is : body ≡ F.target (w 1)
       body_is = leads ∙ target-held read is d
-
-      stands : Before → FormalsBefore code body
-      stands b = subst (FormalsBefore code) (sym (leads ∙ ap (λ (n : ℕ). lead_in n) (held read is d))) b
-
-      pub body-there : Before → body < 4096
-      body-there b = (stands b).there
 
       module _ {head formals count : ℕ} (block : head ≡ get_or code body 0) (many : formals ≡ formals_in head) (asked : count ≡ w 2) where
         number : formals ≡ formals_in (get_or code body 0)
@@ -200,25 +185,18 @@ module _ (code : List ℕ) (cells : List ℤ) (display : List ℕ) (at : ℕ) wh
         pub number-refused : (formals ≡ count → ⊥) → Done (do_call_formal F s) (Stop ArgumentsDiffer) cells
         number-refused n = call-refused F s body_is (number-differs F s body (λ e. n (number ∙ e ∙ sym asked)))
 
-        module _ (same : formals ≡ count) where
-          pub formals-there : Before → 3 * count ≤ body
-          formals-there b = omega (arith, (stands b).before, number, same)
+        module _ (same : formals ≡ count) {a : Bool} (kinds : a ≡ same_kinds code (at + 3) (body - 3 * count) count) where
+          agree : {t : Bool} → a ≡ t → arguments_agree F s body ≡ t
+          agree e = number_same F s body (sym number ∙ same ∙ asked) ∙ sym (rw asked at kinds) ∙ e
 
-          pub kinds-there : Before → body - 3 * count + 3 * count ≤ 4096
-          kinds-there b = omega (arith, formals-there b, body-there b)
+          pub kinds-refused : not a ≡ true → Done (do_call_formal F s) (Stop ArgumentsDiffer) cells
+          kinds-refused t = call-refused F s body_is (agree (not-true a t))
 
-          module _ {a : Bool} (kinds : a ≡ same_kinds code (at + 3) (body - 3 * count) count) where
-            agree : {t : Bool} → a ≡ t → arguments_agree F s body ≡ t
-            agree e = number_same F s body (sym number ∙ same ∙ asked) ∙ sym (rw asked at kinds) ∙ e
-
-            pub kinds-refused : not a ≡ true → Done (do_call_formal F s) (Stop ArgumentsDiffer) cells
-            kinds-refused t = call-refused F s body_is (agree (not-true a t))
-
-            pub called-held : not a ≡ false → {c home : ℕ} → c ≡ cell_in h → home ≡ activation_in c
-                → {m : Move} {ws : List ℤ} → Done (entered_by F s home body) m ws → Done (do_call_formal F s) m ws
-            called-held t p q {m} {ws} did =
-                let e = q ∙ ap (λ (n : ℕ). activation_in n) p ∙ home-held read is d in
-                subst (λ (x : Happened). Done x m ws) (call-is F s e body_is ∙ call-agreed F s body_is (agree (not-false a t))) did
+          pub called-held : not a ≡ false → {c home : ℕ} → c ≡ cell_in h → home ≡ activation_in c
+              → {m : Move} {ws : List ℤ} → Done (entered_by F s home body) m ws → Done (do_call_formal F s) m ws
+          called-held t p q {m} {ws} did =
+              let e = q ∙ ap (λ (n : ℕ). activation_in n) p ∙ home-held read is d in
+              subst (λ (x : Happened). Done x m ws) (call-is F s e body_is ∙ call-agreed F s body_is (agree (not-false a t))) did
 
 -- Arguments handed on: those still to come give all of them, and what lies below the next activation is as it was
 
