@@ -1,7 +1,7 @@
--- The next statement, with its names found by the links: what `acted` asks (`Stating`), and where it is of a class (`Summing`, `Tabling`). Of a statement
--- that is asked so: `by-class`, which fields its names stand in, by its class, and when their cells are those that the links lead to; `ready`, what its
--- function may rely on then; `Does-as` and `Stores`, all this of AR, QY and KN, whose function is called at once; `only-led`, of a statement with one name or none.
-use Rattle.std.specs.Prelude.{ℕ, zero, suc, ◌+◌, ◌*◌, ◌-◌, ◌≤◌, ◌<◌, true, false, ◌≡◌, eqb, ℤ, get_or}
+-- The next statement, with its names found by the links: what `acted` asks (`Stating`), and what the functions of the classes ask (`Chosen`). Of a
+-- statement that is asked so: `by-class`, which fields its names stand in, by its class, and when their cells are those that the links lead to; `ready`,
+-- what its function may rely on then; `Does-as` and `Stores`, all this of AR, QY and KN, whose function is called at once; `only-led`, of a statement with one name or none.
+use Rattle.std.specs.Prelude.{ℕ, ◌+◌, ◌*◌, ◌-◌, ◌≤◌, ◌<◌, true, false, ◌≡◌, eqb, ℤ, get_or}
 use Rattle.std.proofs.Common.{arith, sym, ap, ◌∙◌, eqb-true, eq-eqb, ne_eqb}
 use mathlib.Core.List.{List}
 use Rattle.std.proofs.Math.Path.{refl, subst}
@@ -23,8 +23,10 @@ use Rattle.run_statements.specs.Pieces.{FormalsBefore, only-cells}
 use Rattle.run_statements.specs.Numbers.{op-of}
 use Rattle.run_cells.specs.Finding.{Reachable, Direct, ThroughFormal}
 use Rattle.run_cells.specs.Calling.{word_after, Calling}
+use Rattle.run_classes.specs.declared.Class.{Class}
+use Rattle.run_classes.specs.declared.Class.TheVariants.{One as OneName, Add, Subtract, Compare, ArithmeticFormal, Branch, Pair, Query as AsQuery, Constant}
 use Rattle.run_classes.specs.Asking.{Ready, Leads, Did, class_of}
-use Rattle.run_classes.specs.Asking.{one_class, add_class, subtract_class, compare_class, arithmetic_formal_class, branch_class, pair_class, query_class, constant_class}
+use Rattle.run_classes.specs.Asking.{one_class, add_class, subtract_class, compare_class, arithmetic_formal_class, query_class, constant_class}
 use Rattle.run_classes.specs.Moves as moves
 use Rattle.run_classes.specs.Classes.{add-only, subtract-only, compare-only, arithmetic-only, query-only, constant-only}
 use Rattle.chain_records.specs.declared.Activation.{Activation}
@@ -50,26 +52,12 @@ pub record Stating (code : List ℕ) (cells : List ℤ) (records : List Activati
 abbrev pub happening : List ℕ → List ℤ → List Activation → ℕ → Registers → Happened
 happening code cells records activations here = acting (by_chain cells records here.live here.level) (scene_by code cells activations here.live here.at)
 
--- its class, and the first cell of the innermost activation
-pub record Chosen (code : List ℕ) (here : Registers) (own class : ℕ) : Type 0 where
+-- it is of this class, and the first cell of the innermost activation is this
+pub record Chosen (code : List ℕ) (cells : List ℤ) (records : List Activation) (here : Registers) (own : ℕ) (class : Class) : Type 0 where
+  pub activations : ℕ
+  pub stating : Stating code cells records activations here
   pub own_is : own ≡ 32 * here.live
-  pub class-is : class ≡ class_of (op_of (get_or code here.at 0))
-
--- AR
-pub record Summing (code : List ℕ) (cells : List ℤ) (records : List Activation) (here : Registers) (own class : ℕ) : Type 0 where
-  pub activations : ℕ
-  pub stating : Stating code cells records activations here
-  pub chosen : Chosen code here own class
-  pub low : add_class ≤ class
-  pub high : class ≤ arithmetic_formal_class
-
--- AD, RM and QY
-pub record Tabling (code : List ℕ) (cells : List ℤ) (records : List Activation) (here : Registers) (own class : ℕ) : Type 0 where
-  pub activations : ℕ
-  pub stating : Stating code cells records activations here
-  pub chosen : Chosen code here own class
-  pub low : branch_class < class
-  pub other : class ≡ constant_class → ⊥
+  pub class-is : class_of (op_of (get_or code here.at 0)) ≡ class
 
 -- the statement has been done, and the engine goes on so
 pub record Does (done : Happened) (cells : List ℤ) (here : Registers) (moved : Moved) (cells' : List ℤ) : Type 0 where
@@ -196,17 +184,16 @@ module _ {code : List ℕ} {cells : List ℤ} {records : List Activation} {activ
     pub other : N 2
     pub led : (first second : ℕ) → At first 1 → At second 2 → Led first second 0 o
 
-  abbrev ByClass : Op → ℕ → Type 0
-  ByClass o zero = (first : ℕ) → At first 1 → Led first 0 0 o
-  ByClass o (suc zero) = Unit {0}
-  ByClass o (suc (suc zero)) = Unit {0}
-  ByClass o (suc (suc (suc zero))) = Unit {0}
-  ByClass o (suc (suc (suc (suc zero)))) = Unit {0}
-  ByClass o (suc (suc (suc (suc (suc zero))))) = Two o
-  ByClass o (suc (suc (suc (suc (suc (suc zero)))))) = Two o
-  ByClass o (suc (suc (suc (suc (suc (suc (suc zero))))))) = Unit {0}
-  ByClass o (suc (suc (suc (suc (suc (suc (suc (suc zero)))))))) = Unit {0}
-  ByClass o (suc (suc (suc (suc (suc (suc (suc (suc (suc n))))))))) = ⊥
+  abbrev ByClass : Op → Class → Type 0
+  ByClass o OneName = (first : ℕ) → At first 1 → Led first 0 0 o
+  ByClass o Add = Unit {0}
+  ByClass o Subtract = Unit {0}
+  ByClass o Compare = Unit {0}
+  ByClass o ArithmeticFormal = Unit {0}
+  ByClass o Branch = Two o
+  ByClass o Pair = Two o
+  ByClass o AsQuery = Unit {0}
+  ByClass o Constant = Unit {0}
 
   classed-by : (o : Op) → fields.Fields st o → ByClass o (class_of o)
   unfolding class_of
@@ -227,21 +214,8 @@ module _ {code : List ℕ} {cells : List ℤ} {records : List Activation} {activ
   classed-by goto-formal-op f = λ a p. p
   classed-by call-formal-op f = λ a p. p
 
-  pub by-class : (n : ℕ) → class_of op ≡ n → ByClass op n
-  by-class n e = subst (ByClass op) e (classed-by op stand)
-
-  -- the class that is left
-  pub query-left : (n : ℕ) → ByClass op n → branch_class < n → (n ≡ pair_class → ⊥) → (n ≡ constant_class → ⊥) → n ≡ query_class
-  query-left zero b h d e = absurd (omega arith)
-  query-left (suc zero) b h d e = absurd (omega arith)
-  query-left (suc (suc zero)) b h d e = absurd (omega arith)
-  query-left (suc (suc (suc zero))) b h d e = absurd (omega arith)
-  query-left (suc (suc (suc (suc zero)))) b h d e = absurd (omega arith)
-  query-left (suc (suc (suc (suc (suc zero))))) b h d e = absurd (omega arith)
-  query-left (suc (suc (suc (suc (suc (suc zero)))))) b h d e = absurd (d refl)
-  query-left (suc (suc (suc (suc (suc (suc (suc zero))))))) b h d e = refl
-  query-left (suc (suc (suc (suc (suc (suc (suc (suc zero)))))))) b h d e = absurd (e refl)
-  query-left (suc (suc (suc (suc (suc (suc (suc (suc (suc n))))))))) b h d e = absurd b
+  pub by-class : (class : Class) → class_of op ≡ class → ByClass op class
+  by-class class e = subst (ByClass op) e (classed-by op stand)
 
   -- AR and QY
 

@@ -5,14 +5,14 @@ ghost use Rattle.resolved.specs.Resolved.{level_in};
 ghost use Rattle.resolved.specs.Layout.{operation_in};
 ghost use Rattle.chain_step.specs.Acted.{only_hops, Stating, Does, happening};
 
-use super::summed::summed;
-use super::tabled::tabled;
+use super::summed::{added, compared, subtracted, through_formals};
+use super::tabled::{changed, queried};
 use super::turn::{Moved, came_to};
 use chain_links::first_cell;
 use chain_records::{Activation, follow};
 use layout::{BLOCK, SHARE, level_of, operation_of};
 use run_cells::do_constant;
-use run_classes::{CLASS_BRANCH, CLASS_CONSTANT, CLASS_ONE, act_branch, act_one, class_of};
+use run_classes::{Class, act_branch, act_one, class_of};
 use run_state::Registers;
 use run_words::code_at;
 
@@ -39,26 +39,29 @@ pub fn acted(
     requires { Stating code.now cells.old records.now activations here }
     ensures { Does (happening code.now cells.old records.now activations here) cells.old here result cells.new }
 {
-    let class = class_of(code, here.at);
     let own = SHARE * here.live;
-    if class == CLASS_ONE {
-        let first = SHARE * follow(records, here.live, only_hops(code, here));
-        let done = act_one(code, cells, activations, here.live, here.at, first);
-        return came_to(here, done);
+    match class_of(code, here.at) {
+        Class::One => {
+            let first = SHARE * follow(records, here.live, only_hops(code, here));
+            let done = act_one(code, cells, activations, here.live, here.at, first);
+            came_to(here, done)
+        }
+        Class::Add => added(code, cells, records, here, own),
+        Class::Subtract => subtracted(code, cells, records, here, own),
+        Class::Compare => compared(code, cells, records, here, own),
+        Class::ArithmeticFormal => through_formals(code, cells, records, here, own),
+        Class::Branch => {
+            let first = first_cell(code, records, here, own, 1);
+            let second = first_cell(code, records, here, own, 2);
+            let done = act_branch(code, cells, here.at, first, second);
+            came_to(here, done)
+        }
+        Class::Pair => changed(code, cells, records, here, own),
+        Class::Query => queried(code, cells, records, here, own),
+        Class::Constant => {
+            let first = first_cell(code, records, here, own, 1);
+            let done = do_constant(code, cells, here.at, first);
+            came_to(here, done)
+        }
     }
-    if class == CLASS_BRANCH {
-        let first = first_cell(code, records, here, own, 1);
-        let second = first_cell(code, records, here, own, 2);
-        let done = act_branch(code, cells, here.at, first, second);
-        return came_to(here, done);
-    }
-    if class == CLASS_CONSTANT {
-        let first = first_cell(code, records, here, own, 1);
-        let done = do_constant(code, cells, here.at, first);
-        return came_to(here, done);
-    }
-    if CLASS_BRANCH < class {
-        return tabled(code, cells, records, here, own, class);
-    }
-    summed(code, cells, records, here, own, class)
 }

@@ -9,6 +9,8 @@ use Rattle.run_moves.specs.Acting.{Happened}
 use Rattle.run_moves.specs.Acting.{Op, constant-op, add-op, subtract-op, compare-op, branch-op, goto-op, block-op, call-op, pair-op, unpair-op, query-op}
 use Rattle.run_moves.specs.Acting.{constant-formal-op, arithmetic-formal-op, branch-formal-op, goto-formal-op, call-formal-op}
 use Rattle.resolved.specs.Layout.{lead_in}
+use Rattle.run_classes.specs.declared.Class.{Class}
+use Rattle.run_classes.specs.declared.Class.TheVariants.{One as OneName, Add, Subtract, Compare, ArithmeticFormal, Branch, Pair, Query, Constant}
 use Rattle.run_statements.specs.Pieces.{FormalsBefore}
 use Rattle.run_cells.specs.Finding.{Reachable, Direct, ThroughFormal}
 use Rattle.run_cells.specs.Calling.{word_after, Calling}
@@ -79,35 +81,35 @@ abbrev pub Did : Happened → List ℤ → Move → List ℤ → Type 0
 Did h cells r cells' = (r ≡ h.move) × (cells' ≡ unhanded h.move cells h.cells)
 
 -- The classes: GO, BK, CL, and KN of a formal; AR of which none is a formal, by its operation, and AR of which one is; IF; AD and RM; QY; KN of no formal.
-abbrev pub one_class : ℕ
-one_class = 0
+abbrev pub one_class : Class
+one_class = OneName
 
-abbrev pub add_class : ℕ
-add_class = 1
+abbrev pub add_class : Class
+add_class = Add
 
-abbrev pub subtract_class : ℕ
-subtract_class = 2
+abbrev pub subtract_class : Class
+subtract_class = Subtract
 
-abbrev pub compare_class : ℕ
-compare_class = 3
+abbrev pub compare_class : Class
+compare_class = Compare
 
-abbrev pub arithmetic_formal_class : ℕ
-arithmetic_formal_class = 4
+abbrev pub arithmetic_formal_class : Class
+arithmetic_formal_class = ArithmeticFormal
 
-abbrev pub branch_class : ℕ
-branch_class = 5
+abbrev pub branch_class : Class
+branch_class = Branch
 
-abbrev pub pair_class : ℕ
-pair_class = 6
+abbrev pub pair_class : Class
+pair_class = Pair
 
-abbrev pub query_class : ℕ
-query_class = 7
+abbrev pub query_class : Class
+query_class = Query
 
-abbrev pub constant_class : ℕ
-constant_class = 8
+abbrev pub constant_class : Class
+constant_class = Constant
 
 -- the class of a statement by its operation
-unfoldable pub class_of : Op → ℕ
+unfoldable pub class_of : Op → Class
 class_of constant-op = constant_class
 class_of add-op = add_class
 class_of subtract-op = subtract_class

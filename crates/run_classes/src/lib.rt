@@ -12,48 +12,48 @@ use layout::operation_of;
 use run_moves::{Ask, Move};
 use run_words::code_at;
 
-// The classes of statements: GO, BK, CL, and KN of a formal; AR where no name is a formal, by its operation, and AR where one is; IF; AD and RM; QY; KN of
-// no formal. What is done most has a class of its own, so that one jump leads to it. They are numbers, as in the definition `class_of`.
-pub const CLASS_ONE: usize = 0;
-
-pub const CLASS_ADD: usize = 1;
-
-pub const CLASS_SUBTRACT: usize = 2;
-
-pub const CLASS_COMPARE: usize = 3;
-
-pub const CLASS_ARITHMETIC_FORMAL: usize = 4;
-
-pub const CLASS_BRANCH: usize = 5;
-
-pub const CLASS_PAIR: usize = 6;
-
-pub const CLASS_QUERY: usize = 7;
-
-pub const CLASS_CONSTANT: usize = 8;
+// The classes of statements. What is done most has a class of its own, so that one jump leads to it.
+#[derive(Clone, Copy)]
+pub enum Class {
+    // GO, BK, CL, and KN of a formal
+    One,
+    // AR where no name is a formal, by its operation, and AR where one is
+    Add,
+    Subtract,
+    Compare,
+    ArithmeticFormal,
+    // IF
+    Branch,
+    // AD and RM
+    Pair,
+    // QY
+    Query,
+    // KN of no formal
+    Constant,
+}
 
 // The class of the statement at a place. Each operation is named but CALL_FORMAL, which is what is left of sixteen: a range needs no test then.
-pub fn class_of(code: &[u32; 4096], at: usize) -> usize
+pub fn class_of(code: &[u32; 4096], at: usize) -> Class
     requires { at < 4096 }
     ensures { result ≡ class_of (op_of (get_or code.now at 0)) }
 {
     match operation_of(code_at(code, at)) {
-        layout::CONSTANT => CLASS_CONSTANT,
-        layout::ADD => CLASS_ADD,
-        layout::SUBTRACT => CLASS_SUBTRACT,
-        layout::COMPARE => CLASS_COMPARE,
-        layout::BRANCH => CLASS_BRANCH,
-        layout::GOTO => CLASS_ONE,
-        layout::BLOCK => CLASS_ONE,
-        layout::CALL => CLASS_ONE,
-        layout::ADD_PAIR => CLASS_PAIR,
-        layout::REMOVE_PAIR => CLASS_PAIR,
-        layout::QUERY => CLASS_QUERY,
-        layout::CONSTANT_FORMAL => CLASS_ONE,
-        layout::ARITHMETIC_FORMAL => CLASS_ARITHMETIC_FORMAL,
-        layout::BRANCH_FORMAL => CLASS_BRANCH,
-        layout::GOTO_FORMAL => CLASS_ONE,
-        _ => CLASS_ONE,
+        layout::CONSTANT => Class::Constant,
+        layout::ADD => Class::Add,
+        layout::SUBTRACT => Class::Subtract,
+        layout::COMPARE => Class::Compare,
+        layout::BRANCH => Class::Branch,
+        layout::GOTO => Class::One,
+        layout::BLOCK => Class::One,
+        layout::CALL => Class::One,
+        layout::ADD_PAIR => Class::Pair,
+        layout::REMOVE_PAIR => Class::Pair,
+        layout::QUERY => Class::Query,
+        layout::CONSTANT_FORMAL => Class::One,
+        layout::ARITHMETIC_FORMAL => Class::ArithmeticFormal,
+        layout::BRANCH_FORMAL => Class::Branch,
+        layout::GOTO_FORMAL => Class::One,
+        _ => Class::One,
     }
 }
 

@@ -1,13 +1,11 @@
 -- What the statement has come to is its move's; and what a move comes to is a step (`Turns`).
-use Rattle.std.proofs.Common.{◌≡◌, ℕ, ◌≤◌, List, ℤ, Bool, true, false, refl, sym, ap, subst, ◌∙◌, arith}
+use Rattle.std.proofs.Common.{◌≡◌, ℕ, ◌≤◌, List, ℤ, Bool, false, refl, sym, ap, subst, ◌∙◌, arith}
 use Rattle.chain_records.specs.Records.{at}
 use Rattle.chain_records.specs.declared.Activation.{Activation}
 use Rattle.run_moves.specs.Acting.{Happened}
 use Rattle.run_state.specs.declared.Registers.{Registers}
 use Rattle.run_state.specs.declared.Turn.{Turn}
 use Rattle.run_state.specs.declared.Turn.TheVariants.{Went}
-use Rattle.run_state.specs.Turns.{pairs_after}
-use Rattle.table_laws.specs.Listing.{KeepsList}
 use Rattle.chain_links.specs.declared.Entry.{Entry}
 use Rattle.chain_links.specs.Running.{EnterReady, Succeeds, now_by}
 use Rattle.chain_links.specs.Moving.{room-there, block-fits}
