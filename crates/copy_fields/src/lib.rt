@@ -4,26 +4,12 @@
 
 ghost use Rattle.std.specs.Prelude.{◌≡◌, ◌+◌, ◌<◌, length, replicate};
 ghost use Rattle.laws.specs.Fields.{field_at};
-ghost use Rattle.resolve_fields.specs.Taking.{word_there, taken};
 ghost use Rattle.copy_fields.specs.Naming as naming;
 
 use check_extents::pass;
 use check_fields::word;
 use check_marks::IF;
-use resolve_fields::{leading, trailing};
-
-// So many words from a place on. Past the end nothing is written.
-fn take(code: &[u32; 4096], names: &mut [u32; 4096], from: usize, count: usize)
-    requires { (length names.old ≡ 4096) × (from < 5000) × (count < 65536) }
-    ensures taken { names.new ≡ taken (word_there code.now) names.old from count }
-    ensures long { length names.new ≡ 4096 }
-{
-    for place in from..from + count {
-        if place < 4096 {
-            names[place] = code[place];
-        }
-    }
-}
+use resolve_fields::{leading, put_each, trailing};
 
 // Two words in the other order. Past the end nothing is written.
 fn cross(code: &[u32; 4096], names: &mut [u32; 4096], from: usize)
@@ -47,8 +33,9 @@ fn note(script: &[u8], code: &[u32; 4096], names: &mut [u32; 4096], at: usize, m
         cross(code, names, at / 2 + 1);
         return;
     }
-    take(code, names, at / 2 + 1, leading(mark));
-    take(code, names, at / 2 + 3, trailing(script, at, mark));
+    let word = |place: usize| code[place];
+    put_each(names, at / 2 + 1, leading(mark), word);
+    put_each(names, at / 2 + 3, trailing(script, at, mark), word);
 }
 
 // One pass over the records, which stand one after the other: where the next one begins is read from this one, so no range or slice has

@@ -4,7 +4,6 @@
 
 ghost use Rattle.std.specs.Prelude.{◌≡◌, ◌<◌, length, replicate};
 ghost use Rattle.laws.specs.Fields.{field_at};
-ghost use Rattle.resolve_fields.specs.Taking.{taken};
 ghost use Rattle.search_numbers.specs.Around.{number_at};
 ghost use Rattle.search_numbers.specs.Numbering.{Noted, NumbersStand};
 
@@ -13,7 +12,7 @@ use check_fields::word;
 use check_marks::BK;
 use layout::{level_of, position_of};
 use numbers::from_u32;
-use resolve_fields::{leading, trailing};
+use resolve_fields::{leading, put_each, trailing};
 
 // The number of the name whose word stands at a place.
 fn number_at(code: &[u32; 4096], around: &[u16; 256], place: usize) -> u32
@@ -22,25 +21,6 @@ fn number_at(code: &[u32; 4096], around: &[u16; 256], place: usize) -> u32
 {
     let word = from_u32(code[place]);
     (32 * usize::from(around[level_of(word)]) + position_of(word)) as u32
-}
-
-// The numbers of so many names, whose words stand from a place on. Past the end nothing is written.
-fn number(
-    code: &[u32; 4096],
-    around: &[u16; 256],
-    numbers: &mut [u32; 4096],
-    from: usize,
-    count: usize,
-)
-    requires { (length numbers.old ≡ 4096) × (from < 5000) × (count < 65536) }
-    ensures taken { numbers.new ≡ taken (number_at code.now around.now) numbers.old from count }
-    ensures long { length numbers.new ≡ 4096 }
-{
-    for place in from..from + count {
-        if place < 4096 {
-            numbers[place] = number_at(code, around, place);
-        }
-    }
 }
 
 // The numbers of one record. A block is noted at its level before the looked-up name is numbered, which may be the block's own.
@@ -61,11 +41,12 @@ fn note(
     if mark == BK {
         let level = level_of(from_u32(code[place]));
         around[level] = place as u16;
-        number(code, around, numbers, place + 2, 1);
+        put_each(numbers, place + 2, 1, |p| number_at(code, around, p));
         return;
     }
-    number(code, around, numbers, place + 1, leading(mark));
-    number(code, around, numbers, place + 3, trailing(script, at, mark));
+    let number = |p: usize| number_at(code, around, p);
+    put_each(numbers, place + 1, leading(mark), number);
+    put_each(numbers, place + 3, trailing(script, at, mark), number);
 }
 
 // One pass over the records, which stand one after the other: where the next one begins is read from this one, so no range or slice has
