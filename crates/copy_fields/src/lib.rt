@@ -3,27 +3,11 @@
 #![tactic(auto)]
 
 ghost use Rattle.std.specs.Prelude.{◌≡◌, ◌+◌, ◌<◌, length, replicate};
-ghost use Rattle.laws.specs.Fields.{field_at};
-ghost use Rattle.resolve_fields.specs.Taking.{word_there, taken};
+ghost use Rattle.copy_fields.specs.Layouts.{named_layout};
 ghost use Rattle.copy_fields.specs.Naming as naming;
 
-use check_extents::pass;
-use check_fields::word;
 use check_marks::IF;
-use resolve_fields::{leading, trailing};
-
-// So many words from a place on. Past the end nothing is written.
-fn take(code: &[u32; 4096], names: &mut [u32; 4096], from: usize, count: usize)
-    requires { (length names.old ≡ 4096) × (from < 5000) × (count < 65536) }
-    ensures taken { names.new ≡ taken (word_there code.now) names.old from count }
-    ensures long { length names.new ≡ 4096 }
-{
-    for place in from..from + count {
-        if place < 4096 {
-            names[place] = code[place];
-        }
-    }
-}
+use resolve_fields::{Notes, leading, put_each, trailing, write_words};
 
 // Two words in the other order. Past the end nothing is written.
 fn cross(code: &[u32; 4096], names: &mut [u32; 4096], from: usize)
@@ -37,34 +21,39 @@ fn cross(code: &[u32; 4096], names: &mut [u32; 4096], from: usize)
     }
 }
 
-// The words of one record. IF's label comes first in the resolved script.
-fn note(script: &[u8], code: &[u32; 4096], names: &mut [u32; 4096], at: usize, mark: usize)
-    requires { (length names.old ≡ 4096) × (at < 8192) × (mark ≡ field_at script.now at) }
-    ensures noted { naming.Noted script.now code.now at names.old names.new }
-    ensures long { length names.new ≡ 4096 }
-{
-    if mark == IF {
-        cross(code, names, at / 2 + 1);
-        return;
+// Nothing is kept beside the words.
+#[derive(Drop)]
+struct Naming;
+
+impl Notes for Naming {
+    ghost layout = { λ name. named_layout };
+
+    ghost ahead = { λ it at ps. Unit {0} };
+
+    // IF's label comes first in the resolved script.
+    fn note(
+        &mut self,
+        script: &[u8],
+        code: &[u32; 4096],
+        words: &mut [u32; 4096],
+        at: usize,
+        mark: usize,
+    ) {
+        if mark == IF {
+            cross(code, words, at / 2 + 1);
+            return;
+        }
+        let word = |place: usize| code[place];
+        put_each(words, at / 2 + 1, leading(mark), word);
+        put_each(words, at / 2 + 3, trailing(script, at, mark), word);
     }
-    take(code, names, at / 2 + 1, leading(mark));
-    take(code, names, at / 2 + 3, trailing(script, at, mark));
 }
 
-// One pass over the records, which stand one after the other: where the next one begins is read from this one, so no range or slice has
-// them. `names` is all zeros before it.
+// `names` is all zeros before it.
 pub fn name_fields(script: &[u8], code: &[u32; 4096], names: &mut [u32; 4096])
     requires { names.old ≡ replicate 4096 0 }
     ensures noted { naming.NamesStand script.now code.now names.new }
     ensures long { length names.new ≡ 4096 }
 {
-    if 8192 < script.len() {
-        return;
-    }
-    let mut at = 0;
-    while at < script.len() {
-        let mark = word(script, at);
-        note(script, code, names, at, mark);
-        at = pass(script, at, mark).next;
-    }
+    write_words(script, code, names, &mut Naming);
 }

@@ -1,4 +1,3 @@
 pub mod Words
 pub mod Ahead
 pub mod Records
-pub mod Sweeping

@@ -3,17 +3,14 @@
 #![tactic(auto)]
 
 ghost use Rattle.std.specs.Prelude.{◌≡◌, ◌<◌, length, replicate};
-ghost use Rattle.laws.specs.Fields.{field_at};
-ghost use Rattle.resolve_fields.specs.Taking.{taken};
-ghost use Rattle.search_numbers.specs.Around.{number_at};
-ghost use Rattle.search_numbers.specs.Numbering.{Noted, NumbersStand};
+ghost use Rattle.search_numbers.specs.Layouts.{numbered_layout};
+ghost use Rattle.search_numbers.specs.Around.{number_at, Ahead};
+ghost use Rattle.search_numbers.specs.Numbering.{NumbersStand};
 
-use check_extents::pass;
-use check_fields::word;
 use check_marks::BK;
 use layout::{level_of, position_of};
 use numbers::from_u32;
-use resolve_fields::{leading, trailing};
+use resolve_fields::{Notes, leading, put_each, trailing, write_words};
 
 // The number of the name whose word stands at a place.
 fn number_at(code: &[u32; 4096], around: &[u16; 256], place: usize) -> u32
@@ -24,65 +21,48 @@ fn number_at(code: &[u32; 4096], around: &[u16; 256], place: usize) -> u32
     (32 * usize::from(around[level_of(word)]) + position_of(word)) as u32
 }
 
-// The numbers of so many names, whose words stand from a place on. Past the end nothing is written.
-fn number(
-    code: &[u32; 4096],
-    around: &[u16; 256],
-    numbers: &mut [u32; 4096],
-    from: usize,
-    count: usize,
-)
-    requires { (length numbers.old ≡ 4096) × (from < 5000) × (count < 65536) }
-    ensures taken { numbers.new ≡ taken (number_at code.now around.now) numbers.old from count }
-    ensures long { length numbers.new ≡ 4096 }
-{
-    for place in from..from + count {
-        if place < 4096 {
-            numbers[place] = number_at(code, around, place);
+// At each level the place of the BK of the block around a record.
+#[derive(Drop)]
+struct Numbering {
+    around: [u16; 256],
+}
+
+impl Notes for Numbering {
+    ghost layout = { numbered_layout };
+
+    ghost ahead = { λ it. Ahead it.around 16 };
+
+    // A block is noted at its level before the looked-up name is numbered, which may be the block's own.
+    fn note(
+        &mut self,
+        script: &[u8],
+        code: &[u32; 4096],
+        words: &mut [u32; 4096],
+        at: usize,
+        mark: usize,
+    ) {
+        let place = at / 2;
+        if mark == BK {
+            let level = level_of(from_u32(code[place]));
+            self.around[level] = place as u16;
+            let number = |p: usize| number_at(code, &self.around, p);
+            put_each(words, place + 2, 1, number);
+            return;
         }
+        let number = |p: usize| number_at(code, &self.around, p);
+        put_each(words, place + 1, leading(mark), number);
+        put_each(words, place + 3, trailing(script, at, mark), number);
     }
 }
 
-// The numbers of one record. A block is noted at its level before the looked-up name is numbered, which may be the block's own.
-fn note(
-    script: &[u8],
-    code: &[u32; 4096],
-    around: &mut [u16; 256],
-    numbers: &mut [u32; 4096],
-    at: usize,
-    mark: usize,
-)
-    requires { (length around.old ≡ 256) × (length numbers.old ≡ 4096) × (at < 8192) × (mark ≡ field_at script.now at) }
-    ensures noted { Noted script.now code.now at around.old around.new numbers.old numbers.new }
-    ensures around_long { length around.new ≡ 256 }
-    ensures long { length numbers.new ≡ 4096 }
-{
-    let place = at / 2;
-    if mark == BK {
-        let level = level_of(from_u32(code[place]));
-        around[level] = place as u16;
-        number(code, around, numbers, place + 2, 1);
-        return;
-    }
-    number(code, around, numbers, place + 1, leading(mark));
-    number(code, around, numbers, place + 3, trailing(script, at, mark));
-}
-
-// One pass over the records, which stand one after the other: where the next one begins is read from this one, so no range or slice has
-// them. `numbers` is all zeros before it.
+// `numbers` is all zeros before it.
 pub fn number_names(script: &[u8], code: &[u32; 4096], numbers: &mut [u32; 4096])
     requires { numbers.old ≡ replicate 4096 0 }
     ensures numbered { NumbersStand script.now code.now numbers.new }
     ensures long { length numbers.new ≡ 4096 }
 {
-    if 8192 < script.len() {
-        return;
-    }
-    let mut around = [0u16; 256];
-    let mut at = 0;
-    while at < script.len() {
-        let mark = word(script, at);
-        note(script, code, &mut around, numbers, at, mark);
-        at = pass(script, at, mark).next;
-    }
+    let mut numbering = Numbering {
+        around: [0u16; 256],
+    };
+    write_words(script, code, numbers, &mut numbering);
 }

@@ -1,35 +1,8 @@
--- `search_numbers::number_names` meets its contract: between two records, what is written and what is still to come make up the whole. Assumes nothing.
-use mathlib.Core.Path.{refl, ◌∙◌, ap}
-use Prim.Native.Nat.{ℕ}
-use native.Mathlib.Omega.{arith}
-use lib.ListN.{length, length-replicate}
-use borrow.Author.Rules.{rules}
-use Rattle.grammar.specs.Words.{bytes-are}
-use Rattle.resolve_fields.proofs.Sweeping.{accepted-short}
-use Rattle.search_numbers.proofs.Sweeping.{swept-start, swept_step, swept-end}
+-- The words of the script's block are the numbers of the names. Assumes nothing.
+use Rattle.resolve_fields.specs.Walk.{words_layout}
+use Rattle.search_numbers.specs.NumberFields.{numbered_of}
 use Rattle.search_numbers.proofs.number_names.Goals as goal
 
-pub returns-then-script-gt8192 : goal.returns-then-script-gt8192
-returns-then-script-gt8192 c =
-    let a = c.args in
-    let bytes = bytes-are a.script.now (λ i. (c.type_inv.script i).fits) in
-    record {
-      numbered = λ t name e h. absurd (omega (arith, c.if-script-gt8192.true, accepted-short a.script.now bytes t e));
-      long = ap length c.requires ∙ length-replicate {A = ℕ} 4096 0;
-    }
-
-pub loop-at-init : goal.loop-at-init
-loop-at-init c =
-    let a = c.args in
-    let bytes = bytes-are a.script.now (λ i. (c.type_inv.script i).fits) in (
-      omega arith,
-      refl,
-      ap length c.requires ∙ length-replicate {A = ℕ} 4096 0,
-      swept-start a.script.now a.code.now _ a.numbers.now bytes refl c.requires,
-    )
-
-pub loop-at-preserved : goal.loop-at-preserved
-loop-at-preserved c = search (rules, swept_step)
-
 pub returns-clause-numbered : goal.returns-clause-numbered
-returns-clause-numbered c = search (rules, swept-end)
+unfolding words_layout numbered_of
+returns-clause-numbered c = c.write_words.ensures.written
