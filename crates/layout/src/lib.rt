@@ -92,6 +92,7 @@ pub fn target_of(word: usize) -> usize
     word / 65536
 }
 
+#[tactic(auto, unfolding(resolved::specs::Resolved::packed))]
 pub fn name_word(position: usize, formal: usize, kind: usize, level: usize, target: usize) -> usize
     requires { (position < 2 ^ 32) × (formal < 2) × (kind < 65536) × (level < 2 ^ 32) × (target < 3 * 2 ^ 30) }
     ensures { (result ≡ packed position formal kind level target) × (result < 2 ^ 48) }

@@ -23,6 +23,7 @@ use run_words::{code_at, whole, word_of};
 const SIZES: usize = 3617872862303704404;
 
 // The designator of a cell.
+#[tactic(auto, unfolding(arrays::specs::Holds::designator_of))]
 pub fn designator_of(cell: usize) -> u32
     requires { cell < 8192 }
     ensures { (result ≡ designator_of cell) × (result < 32768) }
@@ -44,6 +45,7 @@ pub fn name_designator(cells: &[i32; 8224], first: usize, word: usize) -> u32
     designator_of(cell_of(whole(cells[first + position_of(word)])))
 }
 
+#[tactic(auto, unfolding(crate::specs::Sizes::plain_size))]
 fn plain_size(operation: usize) -> usize
     requires { operation < 16 }
     ensures { (result ≡ plain_size operation) × (result < 16) }

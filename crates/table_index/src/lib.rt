@@ -12,6 +12,7 @@ ghost use Rattle.table_index.specs.Index.{home_of, Indexed, Sought};
 use table_places::natural_at;
 
 // The product spreads groups that follow each other. Without the first step it would leave some groups at equal distances close together.
+#[tactic(auto, unfolding(crate::specs::Index::home_of))]
 fn home(size: usize, group: u64) -> usize
     requires size_nonzero { 0 < size }
     requires size_bound { size ≤ 4294967296 }
