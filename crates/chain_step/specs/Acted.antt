@@ -217,6 +217,19 @@ module _ {code : List ℕ} {cells : List ℤ} {records : List Activation} {activ
   pub by-class : (class : Class) → class_of op ≡ class → ByClass op class
   by-class class e = subst (ByClass op) e (classed-by op stand)
 
+  -- the class that is left
+  pub query-left : (class : Class) → (class ≡ OneName → ⊥) → (class ≡ Add → ⊥) → (class ≡ Subtract → ⊥) → (class ≡ Compare → ⊥)
+      → (class ≡ ArithmeticFormal → ⊥) → (class ≡ Branch → ⊥) → (class ≡ Pair → ⊥) → (class ≡ Constant → ⊥) → class ≡ AsQuery
+  query-left OneName one add subtract compare formal branch pair constant = absurd (one refl)
+  query-left Add one add subtract compare formal branch pair constant = absurd (add refl)
+  query-left Subtract one add subtract compare formal branch pair constant = absurd (subtract refl)
+  query-left Compare one add subtract compare formal branch pair constant = absurd (compare refl)
+  query-left ArithmeticFormal one add subtract compare formal branch pair constant = absurd (formal refl)
+  query-left Branch one add subtract compare formal branch pair constant = absurd (branch refl)
+  query-left Pair one add subtract compare formal branch pair constant = absurd (pair refl)
+  query-left AsQuery one add subtract compare formal branch pair constant = refl
+  query-left Constant one add subtract compare formal branch pair constant = absurd (constant refl)
+
   -- AR and QY
 
   abbrev way : Finding
