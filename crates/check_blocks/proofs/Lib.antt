@@ -10,3 +10,4 @@ pub mod Loops
 pub mod Shapes
 pub mod Sizes
 pub mod AtSize
+pub mod AnyTables

@@ -1,6 +1,6 @@
-// Answers and words in print. No contract can say what is written; what an engine is in print is said.
-ghost use Rattle.std.specs.Prelude.{Some};
-ghost use Rattle.program_engines.specs.Names.{name_of};
+// Answers and words in print. No contract can say what is written; what an engine and an end are in print is said.
+ghost use Rattle.std.specs.Prelude.{◌≡◌, Some};
+ghost use Rattle.program_engines.specs.Names.{name_of, end_of};
 
 use super::Engine;
 use std::{fmt, io};
@@ -19,7 +19,9 @@ impl fmt::Display for Engine {
 }
 
 // The end that an answer's first word tells.
-fn end_named(word: u64) -> &'static str {
+fn end_named(word: u64) -> &'static str
+    ensures { result.now ≡ end_of word }
+{
     match word {
         0 => "finished",
         1 => "spent",

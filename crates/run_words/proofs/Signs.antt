@@ -1,12 +1,12 @@
--- Signed words: what is read back of a word's bits, and how large sums of two words are.
+-- Signed words: what is read back of a word's bits, how large sums of two words are, and which values fit a word.
 use Prim.Native.Nat.{ℕ, zero, suc, ◌-◌, ◌<◌, ◌≤◌}
 use mathlib.Core.Path.{◌≡◌, refl, sym, subst, ap, ◌∙◌}
 use mathlib.Core.Bool.{Bool, true, false, cond}
 use native.Mathlib.Omega.{arith}
-use borrow.Author.Tests.{lt-ltb, le-ltb}
+use borrow.Author.Tests.{lt-ltb, le-ltb, leb-true, leb-false}
 use lib.Dec.{T, ltb}
 use lib.IntN.{ℤ, pos, negsuc, neg_ℤ, nat_abs, ◌+ℤ◌, ◌-ℤ◌}
-use lib.Signed.{mag, lt_z, non_neg}
+use lib.Signed.{mag, lt_z, le_z, non_neg}
 use mir.Val.{Fits, SFits, of_z, to_z}
 use mir.Syntax.{w32, w64}
 use mir.Facts.{to_z-of_z, to_z_pos, sfits_widen}
@@ -94,6 +94,20 @@ pub signed_high : (b : ℕ) → 2147483648 ≤ b → b < 4294967296 → to_z w32
 unfolding encoding.signed
 signed_high b low h =
     to_z-of_z (high_fits b low h) ∙ to_z-of_z (high-wide b low h) ∙ less-by-all b low h ∙ rw (le-ltb b 2147483648 low, encoding.signed)
+
+-- Which values fit a word
+
+pub in-range : (z : ℤ) → le_z (negsuc 2147483647) z ≡ true → le_z z (pos 2147483647) ≡ true → ltb (mag z) 2147483648 ≡ true
+in-range (pos n) p q = lt-ltb n 2147483648 (omega (arith, leb-true n 2147483647 q))
+in-range (negsuc n) p q = lt-ltb n 2147483648 (omega (arith, leb-true n 2147483647 p))
+
+pub too-low : (z : ℤ) → le_z (negsuc 2147483647) z ≡ false → ltb (mag z) 2147483648 ≡ false
+too-low (pos n) e = let z : ◌≡◌ {A = ℕ} 0 1 = cc in absurd (omega arith)
+too-low (negsuc n) e = le-ltb n 2147483648 (omega (arith, leb-false n 2147483647 e))
+
+pub too-high : (z : ℤ) → le_z z (pos 2147483647) ≡ false → ltb (mag z) 2147483648 ≡ false
+too-high (pos n) e = le-ltb n 2147483648 (omega (arith, leb-false n 2147483647 e))
+too-high (negsuc n) e = let z : ◌≡◌ {A = ℕ} 0 1 = cc in absurd (omega arith)
 
 -- A word that is not negative
 

@@ -59,13 +59,12 @@ fn keep(cells: &mut [i32; 8224], cell: usize, value: i64) -> Result<(), Stop>
     requires { cell < 8192 }
     ensures { (result ≡ effect_of value) × (cells.new ≡ cells_of cells.old cell value) }
 {
-    match i32::try_from(value) {
-        Ok(word) => {
-            cells[cell] = word;
-            Ok(())
-        }
-        Err(_) => Err(Stop::ResultTooLarge),
+    // By comparisons: with `try_from` a step of the display engine on a counting loop takes 40.6 instructions in place of 39.2.
+    if -2147483648 <= value && value <= 2147483647 {
+        cells[cell] = value as i32;
+        return Ok(());
     }
+    Err(Stop::ResultTooLarge)
 }
 
 // AR: the cells of target, left and right.

@@ -21,11 +21,12 @@ fn ran(
     requires { (t : Block) × Admitted search (fed_of numbers script.now table.old groups.old sheet.old) t }
     ensures { Answers search (fed_of numbers script.now table.old groups.old sheet.old) result sheet.new table.new groups.new }
 {
+    // Made before the passes over the script: after them, the compiled code clears them twice.
+    let mut cells = [0i32; 8224];
     let mut code = [0u32; 4096];
     resolve_script::resolve(script, numbers.name as usize, &mut code);
     let mut names = [0u32; 4096];
     search_numbers::number_names(script, &code, &mut names);
-    let mut cells = [0i32; 8224];
     let state = search_run::start_state();
     let mut passers = state.passers;
     let mut blocks = state.blocks;

@@ -1,3 +1,4 @@
+mod AtSize
 use Rattle.std.proofs.Common.{◌≡◌, ◌+◌, ◌-◌, ◌*◌, ℕ, List, take, arith, refl, sym, ◌∙◌, ap, subst}
 use Rattle.language.specs.Structure.{block_with}
 use Rattle.check_marks.specs.declared.Place.TheVariants.{Declaration}
